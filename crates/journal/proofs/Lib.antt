@@ -1,0 +1,11 @@
+mod Joins
+mod Spreads
+mod Counts
+mod Pushes
+mod Cuts
+mod Finds
+mod Places
+mod Fills
+mod Outcomes
+mod Journals
+mod Corrections

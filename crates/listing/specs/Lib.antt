@@ -1,0 +1,4 @@
+pub mod Lines
+pub mod Listings
+pub mod Refusals
+pub mod Readouts

@@ -1,0 +1,5 @@
+mod Lays
+mod Turns
+mod Drafts
+mod Notes
+mod Starts

@@ -1,0 +1,3 @@
+pub mod LaidCells
+pub mod Heard
+pub mod Outcomes

@@ -1,0 +1,5 @@
+// Journals laid on bases, one on another, and whole histories of one journal.
+pub mod call;
+pub mod laid;
+pub mod outcome;
+pub mod replay;

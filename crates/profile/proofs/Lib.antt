@@ -1,0 +1,5 @@
+mod Aheads
+mod Sizes
+mod Opens
+pub mod Opened
+mod Places

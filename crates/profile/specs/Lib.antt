@@ -1,0 +1,4 @@
+pub mod Maps
+pub mod Groups
+pub mod Profiles
+pub mod Lengths

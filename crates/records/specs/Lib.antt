@@ -1,0 +1,4 @@
+pub mod Records
+pub mod Recorded
+pub mod Faults
+pub mod Batches
