@@ -1,5 +1,7 @@
 // Reads inputs of readout, a line of hex digits each, and prints what readout prints for each, with an
 // empty line after it.
+ghost use Prim.Native.Nat.{_<_};
+ghost use Rattle.std.specs.Options.{Cases as BySome};
 use listing::readout::read_out;
 use listing::refused::ReadoutError;
 use listing::refused::RefusedDisplay;
@@ -11,7 +13,9 @@ use std::io::BufReader;
 use std::io::Write;
 
 // The value of a hex digit in lower case.
-fn digit(b: u8) -> Option<u8> {
+fn digit(b: u8) -> Option<u8>
+    ensures { λ r. ⌜ BySome r (Unit {0}) (λ d. d < 16) ⌝ }
+{
     match b {
         b'0'..=b'9' => Some(b - b'0'),
         b'a'..=b'f' => Some(b - b'a' + 10),
@@ -19,13 +23,20 @@ fn digit(b: u8) -> Option<u8> {
     }
 }
 
+// The byte of two hex digits.
+fn byte(high: u8, low: u8) -> Option<u8> {
+    let high = digit(high)?;
+    let low = digit(low)?;
+    Some(high * 16 + low)
+}
+
 // The bytes of a line; what is no pair of digits is left out.
 fn bytes_of(heap: Global, line: &[u8]) -> Result<Vec<u8>, AllocError> {
     let mut bytes = Vec::new(heap);
     for pair in line.chunks(2) {
-        if let [a, b] = pair {
-            if let (Some(high), Some(low)) = (digit(*a), digit(*b)) {
-                bytes.push(high * 16 + low)?;
+        if let [high, low] = pair {
+            if let Some(b) = byte(*high, *low) {
+                bytes.push(b)?;
             }
         }
     }
