@@ -1,5 +1,5 @@
 -- In every state of a history, base places lie below the length started for.
-use mathlib.Core.Path.{_≡_, refl, sym, ap, _∙_}
+use mathlib.Core.Path.{_≡_, refl, sym, ap, subst⁻¹, _∙_}
 use mathlib.Core.Bool.{true}
 use mathlib.Core.List.{List, map}
 use Prim.Native.Nat.{ℕ, _<_}
@@ -7,8 +7,10 @@ use native.Mathlib.Omega.{arith}
 use Rattle.std.specs.declared.result.Result.the-variants.{Ok}
 use Rattle.series.specs.Lists.{nth}
 use Rattle.journal.specs.Machine.{State, Correction, Answer, place, word, answers, start, edited, passes}
+use Rattle.journal.proofs.Nths.{nth-unmap}
+use Rattle.journal.proofs.Tidying.{answers-tidied}
 use Rattle.history.specs.Calls.{Call, ran}
-use Rattle.history.proofs.Lists.{Ways, before, fresh, behind, ways, nth-unmap}
+use Rattle.history.proofs.Lists.{Ways, before, fresh, behind, ways}
 use Rattle.history.proofs.Runs.{fits, at-start, answers-edited, keeps}
 
 module _ {W : Type 0} where
@@ -33,8 +35,9 @@ module _ {W : Type 0} where
       at (behind r l k e) = s r m e
 
   pub below-ran : (n : ℕ) (st : State W) (calls : List (Call W)) → Below n (answers st) → Below n (answers (ran st calls))
-  below-ran n st calls h = keeps (λ ts s. Below n (answers s)) (λ ts s c e b. below-edited n s c e b) calls st h
+  below-ran n st calls h =
+      keeps (λ ts s. Below n (answers s)) (λ ts s c e b. below-edited n s c e b) (λ ts s b. subst⁻¹ (Below n) (answers-tidied s) b) calls st h
 
   -- a history leaves the length started for as it is
   pub started-ran : (st : State W) (calls : List (Call W)) → ran st calls .started ≡ st .started
-  started-ran st calls = keeps (λ ts s. s .started ≡ st .started) (λ ts s c e b. b) calls st refl
+  started-ran st calls = keeps (λ ts s. s .started ≡ st .started) (λ ts s c e b. b) (λ ts s b. b) calls st refl

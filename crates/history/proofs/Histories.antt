@@ -6,16 +6,15 @@ use native.Mathlib.Omega.{arith}
 use lib.ListN.{length, length-map}
 use Rattle.std.specs.declared.result.Result.{Result}
 use Rattle.std.specs.declared.result.Result.the-variants.{Ok}
-use Rattle.std.specs.Results.{valueOr}
 use Rattle.series.specs.declared.cell.Cell.{Cell}
 use Rattle.series.specs.declared.cell.Cell.the-variants.{Reading, Fault}
 use Rattle.series.specs.Faults.{past-base}
 use Rattle.series.specs.Lists.{nth}
 use Rattle.journal.specs.Machine.{State, Answer, place, word, answers, start}
+use Rattle.journal.proofs.Nths.{nth-some, nth-value, nth-map-ok, nth-unmap}
 use Rattle.history.specs.Calls.{Call, ran}
 use Rattle.history.specs.Laid.{cellOf, laid}
 use Rattle.history.specs.History.{Item, labelled, plain, Once, Stands, Law, History-law}
-use Rattle.history.proofs.Lists.{nth-map-ok, nth-unmap, nth-some}
 use Rattle.history.proofs.Labels.{agree, alike}
 use Rattle.history.proofs.Standing.{inv-of}
 use Rattle.history.proofs.Series.{balance, laid-ran}
@@ -59,7 +58,7 @@ module _ {W R : Type 0} (decode : W → R) (cells : List (Cell R)) (tag : ℕ) (
 
   -- below the base's length, no fault arises
   in-base : (m : ℕ) → m < n → Ok (cellOf decode tag cells (place m)) ≡ nth cells m
-  in-base m h = let w = nth-some cells m h in ap (λ (r : Result (Cell R) ℕ). Ok (valueOr r (Fault (past-base tag m)))) (w .1) ∙ sym (w .1)
+  in-base m h = let w = nth-some cells m h in ap Ok (nth-value cells m (w .0) (Fault (past-base tag m)) (w .1)) ∙ sym (w .1)
 
   law : (encode : R → W) → Law n calls encode decode st cells (laid decode tag cells st)
   law encode =

@@ -3,7 +3,7 @@ use mathlib.Core.Path.{_≡_, refl, sym, ap, ap₂, _∙_}
 use mathlib.Core.List.{List, map, map-map, map-congr-left}
 use Prim.Native.Nat.{ℕ}
 use Rattle.journal.specs.Machine.{State, Correction, correction, place, word, answers, start}
-use Rattle.history.specs.Calls.{Call, correct, draft, batch, ran}
+use Rattle.history.specs.Calls.{Call, correct, draft, batch, tidy, ran}
 use Rattle.history.specs.History.{Turn, turns, accepted, Entry, Item, entry, labelCorrection, mapCall, labelled, unlabelled, plain}
 use Rattle.history.proofs.Lists.{map-indexed}
 use Rattle.history.proofs.Maps.{mapA, mapC, mapK, mapT, answers-map, start-map, ran-map, turns-map}
@@ -19,6 +19,7 @@ module _ {W : Type 0} where
   call-back k (correct c) = ap correct (correction-back k 0 c)
   call-back k (draft cs kept) = ap (λ (l : List (Correction W)). draft l kept) (map-indexed (labelCorrection k) (mapC val) (correction-back k) 0 cs)
   call-back k (batch cs whole) = ap (λ (l : List (Correction W)). batch l whole) (map-indexed (labelCorrection k) (mapC val) (correction-back k) 0 cs)
+  call-back k tidy = refl
 
   calls-back : (calls : List (Call W)) → map (mapK val) (labelled calls) ≡ calls
   calls-back calls = map-indexed (λ k. mapCall (labelCorrection k)) (mapK val) call-back 0 calls

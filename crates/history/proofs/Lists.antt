@@ -10,8 +10,7 @@ use Rattle.std.specs.declared.result.Result.the-variants.{Ok}
 use Rattle.std.proofs.shelf.Lists.{map-append, take-map, drop-map, length-take-le, length-drop}
 use Rattle.std.proofs.shelf.Tests.{cases-lt}
 use Rattle.series.specs.Lists.{nth, spliced, upFrom, indexed}
-use Rattle.series.specs.Refusals.{with-ok}
-use Rattle.series.proofs.Nths.{nth-mapped}
+use Rattle.journal.proofs.Nths.{none}
 
 pub map-spliced : {A B : Type 0} (f : A → B) (p s : ℕ) (new old : List A) → map f (spliced p s new old) ≡ spliced p s (map f new) (map f old)
 map-spliced {B = B} f p s new old =
@@ -34,9 +33,6 @@ map-indexed f g h k (x ∷ xs) = ap₂ _∷_ (h k x) (map-indexed f g h (suc k) 
 pub indexed-same : {A : Type 0} (f : ℕ → A → A) → ((k : ℕ) (a : A) → f k a ≡ a) → (xs : List A) → indexed f 0 xs ≡ xs
 indexed-same f h xs = sym (map-id (indexed f 0 xs)) ∙ map-indexed f (λ x. x) h 0 xs
 
-pub none : {A : Type 0} (q : ℕ) (a : A) → nth [] q ≡ Ok a → ⊥
-none q a e = let z : _≡_ {A = ℕ} 0 1 = cc in omega arith
-
 module _ {A : Type 0} where
   nth-before : (p : ℕ) (xs ys : List A) (q : ℕ) → q < p → p ≤ length xs → nth (take p xs ++ ys) q ≡ nth xs q
   nth-before zero xs ys q h l = absurd (omega arith)
@@ -44,7 +40,7 @@ module _ {A : Type 0} where
   nth-before (suc p) (x ∷ xs) ys zero h l = refl
   nth-before (suc p) (x ∷ xs) ys (suc q) h l = nth-before p xs ys q (omega arith) (omega arith)
 
-  nth-skip : (xs ys : List A) (i : ℕ) → nth (xs ++ ys) (length xs + i) ≡ nth ys i
+  pub nth-skip : (xs ys : List A) (i : ℕ) → nth (xs ++ ys) (length xs + i) ≡ nth ys i
   nth-skip [] ys i = ap (nth ys) (zero-add i)
   nth-skip (x ∷ xs) ys i = ap (nth (x ∷ (xs ++ ys))) (suc-add (length xs) i) ∙ nth-skip xs ys i
 
@@ -75,11 +71,6 @@ module _ {A : Type 0} where
   nth-length [] q a e = absurd (none q a e)
   nth-length (x ∷ xs) zero a e = omega arith
   nth-length (x ∷ xs) (suc q) a e = omega (arith, nth-length xs q a e)
-
-  pub nth-some : (xs : List A) (q : ℕ) → q < length xs → (a : A) × (nth xs q ≡ Ok a)
-  nth-some [] q h = absurd (omega arith)
-  nth-some (x ∷ xs) zero h = (x, refl)
-  nth-some (x ∷ xs) (suc q) h = nth-some xs q (omega arith)
 
   pub nth-more : (xs ys : List A) (q : ℕ) (a : A) → nth xs q ≡ Ok a → nth (xs ++ ys) q ≡ Ok a
   nth-more xs ys q a e = nth-in xs ys q (nth-length xs q a e) ∙ e
@@ -121,14 +112,6 @@ module _ {A : Type 0} where
       let there : q ≡ p + (length new + (r - (p + s))) = omega arith in
       let back : (p + s) + (r - (p + s)) ≡ r = omega arith in
       ap (nth (spliced p s new old)) there ∙ nth-behind p (p + s) old new (r - (p + s)) (omega arith) ∙ ap (nth old) back ∙ e
-
-pub nth-map-ok : {A B : Type 0} (f : A → B) (xs : List A) (q : ℕ) (a : A) → nth xs q ≡ Ok a → nth (map f xs) q ≡ Ok (f a)
-nth-map-ok f xs q a e = sym (nth-mapped f xs q) ∙ ap (with-ok f) e
-
-pub nth-unmap : {A B : Type 0} (f : A → B) (xs : List A) (q : ℕ) (b : B) → nth (map f xs) q ≡ Ok b → (a : A) × (nth xs q ≡ Ok a) × (f a ≡ b)
-nth-unmap f [] q b e = absurd (none q b e)
-nth-unmap f (x ∷ xs) zero b e = (x, refl, cc)
-nth-unmap f (x ∷ xs) (suc q) b e = nth-unmap f xs q b e
 
 pub length-upFrom : (n k : ℕ) → length (upFrom k n) ≡ n
 length-upFrom zero k = refl

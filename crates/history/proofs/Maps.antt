@@ -9,8 +9,11 @@ use Rattle.std.specs.declared.result.Result.{Result}
 use Rattle.std.specs.declared.result.Result.the-variants.{Ok, Err}
 use Rattle.std.specs.Results.{isOk}
 use Rattle.series.specs.Lists.{spliced, upFrom}
-use Rattle.journal.specs.Machine.{Origin, base, entered, State, Correction, correction, Answer, place, word, answer, answers, start, numbered, edited, follows, piecesAfter, pieces, check, passes, corrected, correctedAll, allPass}
-use Rattle.history.specs.Calls.{Call, correct, draft, batch, called, ran}
+use Rattle.journal.specs.Machine.{Origin, base, entered, State, Correction, correction, Answer, place, word, answer, answers, start, numbered, edited, pieces, check, passes, corrected, correctedAll, allPass}
+use Rattle.journal.specs.Tidied.{wordsIn, renumbered, neat, tidied}
+use Rattle.journal.specs.Pieces.{bare}
+use Rattle.journal.proofs.Gathered.{pieces-bare}
+use Rattle.history.specs.Calls.{Call, correct, draft, batch, tidy, called, ran}
 use Rattle.history.specs.History.{Turn, turn, turnsOf, turnsIn, turns}
 use Rattle.history.proofs.Lists.{map-spliced}
 
@@ -45,23 +48,18 @@ module _ {V W : Type 0} (f : V → W) where
   mapK (correct c) = correct (mapC c)
   mapK (draft cs kept) = draft (map mapC cs) kept
   mapK (batch cs whole) = batch (map mapC cs) whole
+  mapK tidy = tidy
 
   abbrev pub mapT : Turn V → Turn W
   mapT t = record { met = mapS (t .met); made = mapC (t .made) }
 
-  follows-map : (o p : Origin V) → follows (mapO o) (mapO p) ≡ follows o p
-  follows-map (base m) (base n) = refl
-  follows-map (base m) (entered j w) = refl
-  follows-map (entered i v) (base n) = refl
-  follows-map (entered i v) (entered j w) = refl
-
-  pieces-after : (o : Origin V) (os : List (Origin V)) → piecesAfter (mapO o) (map mapO os) ≡ piecesAfter o os
-  pieces-after o [] = refl
-  pieces-after o (p ∷ os) = ap₂ (λ (b : Bool) (n : ℕ). cond b n (suc n)) (follows-map o p) (pieces-after p os)
+  bare-map : (o : Origin V) → bare (mapO o) ≡ bare o
+  bare-map (base m) = refl
+  bare-map (entered j v) = refl
 
   pieces-map : (os : List (Origin V)) → pieces (map mapO os) ≡ pieces os
-  pieces-map [] = refl
-  pieces-map (o ∷ os) = pieces-after o os
+  pieces-map os =
+      sym (pieces-bare (map mapO os)) ∙ ap pieces (map-map bare mapO os ∙ map-congr-left (λ o m. bare-map o)) ∙ pieces-bare os
 
   numbered-map : (vs : List V) (k : ℕ) → numbered k (map f vs) ≡ map mapO (numbered k vs)
   numbered-map [] k = refl
@@ -74,13 +72,29 @@ module _ {V W : Type 0} (f : V → W) where
   pub answers-map : (st : State V) → answers (mapS st) ≡ map mapA (answers st)
   answers-map st = map-map answer mapO (st .origins) ∙ map-congr-left (λ o m. answer-map o) ∙ sym (map-map mapA answer (st .origins))
 
+  abbrev stateOf : ℕ → List (Origin W) → List W → State W
+  stateOf n os ws = record { started = n; origins = os; words = ws }
+
   pub start-map : (n : ℕ) → start n ≡ mapS (start n)
-  start-map n =
-      ap (λ (os : List (Origin W)). let st : State W = record { started = n; origins = os; words = [] } in st) (sym (map-map mapO base (upFrom 0 n)))
+  start-map n = ap (λ (os : List (Origin W)). stateOf n os []) (sym (map-map mapO base (upFrom 0 n)))
+
+  renumbered-map : (xs : List (Answer V)) (k : ℕ) → renumbered k (map mapA xs) ≡ map mapO (renumbered k xs)
+  renumbered-map [] k = refl
+  renumbered-map (place m ∷ xs) k = ap (λ (r : List (Origin W)). base m ∷ r) (renumbered-map xs k)
+  renumbered-map (word v ∷ xs) k = ap (λ (r : List (Origin W)). entered k (f v) ∷ r) (renumbered-map xs (suc k))
+
+  words-map : (xs : List (Answer V)) → wordsIn (map mapA xs) ≡ map f (wordsIn xs)
+  words-map [] = refl
+  words-map (place m ∷ xs) = words-map xs
+  words-map (word v ∷ xs) = ap (λ (r : List W). f v ∷ r) (words-map xs)
+
+  tidied-map : (st : State V) → tidied (mapS st) ≡ mapS (tidied st)
+  tidied-map st =
+      ap (neat (st .started)) (answers-map st) ∙ ap₂ (stateOf (st .started)) (renumbered-map (answers st) 0) (words-map (answers st))
 
   edited-map : (st : State V) (c : Correction V) → edited (mapS st) (mapC c) ≡ mapS (edited st c)
   edited-map st c =
-      ap₂ (λ (os : List (Origin W)) (ws : List W). let s : State W = record { started = st .started; origins = os; words = ws } in s)
+      ap₂ (stateOf (st .started))
       (ap (λ (l : List (Origin W)). spliced (c .at) (c .strikes) l (map mapO (st .origins)))
       (ap (λ (k : ℕ). numbered k (map f (c .enters))) (length-map (st .words) f) ∙ numbered-map (c .enters) (length (st .words))) ∙
       sym (map-spliced mapO (c .at) (c .strikes) (numbered (length (st .words)) (c .enters)) (st .origins)))
@@ -113,6 +127,7 @@ module _ {V W : Type 0} (f : V → W) where
   called-map st (draft cs kept) = ap (λ (s : State W). cond kept s (mapS st)) (all-map cs st) ∙ cond-ap mapS kept (correctedAll st cs) st
   called-map st (batch cs whole) =
       ap₂ (λ (b : Bool) (s : State W). cond (whole && b) s (mapS st)) (pass-map cs st) (all-map cs st) ∙ cond-ap mapS (whole && allPass st cs) (correctedAll st cs) st
+  called-map st tidy = tidied-map st
 
   pub ran-map : (ks : List (Call V)) (st : State V) → ran (mapS st) (map mapK ks) ≡ mapS (ran st ks)
   ran-map [] st = refl
@@ -133,6 +148,7 @@ module _ {V W : Type 0} (f : V → W) where
   turnsIn-map st (draft cs kept) = ap (λ (l : List (Turn W)). cond kept l []) (turnsOf-map cs st) ∙ cond-ap (map mapT) kept (turnsOf st cs) []
   turnsIn-map st (batch cs whole) =
       ap₂ (λ (b : Bool) (l : List (Turn W)). cond (whole && b) l []) (pass-map cs st) (turnsOf-map cs st) ∙ cond-ap (map mapT) (whole && allPass st cs) (turnsOf st cs) []
+  turnsIn-map st tidy = refl
 
   pub turns-map : (ks : List (Call V)) (st : State V) → turns (mapS st) (map mapK ks) ≡ map mapT (turns st ks)
   turns-map [] st = refl

@@ -1,9 +1,11 @@
--- What a start and an accepted correction do to the answers; and what every accepted correction keeps, every history keeps.
+-- What a start and an accepted correction do to the answers; and what every accepted correction and tidying keep, every history
+-- keeps.
 use mathlib.Core.Path.{_≡_, refl, sym, ap, subst, subst⁻¹, _∙_}
 use mathlib.Core.Bool.{Bool, true, false, cond, _&&_}
 use mathlib.Core.List.{List, [], _∷_, _++_, map, map-map, append-nil, append-assoc}
-use Prim.Native.Nat.{ℕ, suc, _+_, _≤_, _<_}
+use Prim.Native.Nat.{ℕ, suc, _+_, _-_, _≤_, _<_}
 use native.Mathlib.Nat.{zero-add}
+use native.Mathlib.Omega.{arith}
 use lib.Dec.{ltb}
 use lib.ListN.{length, length-map}
 use Rattle.std.specs.declared.result.Result.{Result}
@@ -11,23 +13,48 @@ use Rattle.std.specs.declared.result.Result.the-variants.{Ok, Err}
 use Rattle.std.specs.Results.{isOk}
 use Rattle.std.proofs.shelf.Tests.{ltb-false, false≢true}
 use Rattle.series.specs.Lists.{nth, spliced, upFrom, indexed}
-use Rattle.journal.specs.Machine.{State, Correction, Answer, base, place, word, answer, answers, start, numbered, edited, passes, corrected, correctedAll, allPass}
-use Rattle.history.specs.Calls.{Call, correct, draft, batch, called, ran}
+use Rattle.journal.specs.Machine.{State, Correction, Answer, base, place, word, answer, answers, start, numbered, edited, pieces, passes, corrected, correctedAll, allPass}
+use Rattle.journal.specs.Tidied.{tidied}
+use Rattle.journal.proofs.Nths.{nth-map-ok, nth-unmap}
+use Rattle.history.specs.Calls.{Call, correct, draft, batch, tidy, called, ran}
 use Rattle.history.specs.History.{Turn, turn, turnsOf, turnsIn, turns, mapCall}
-use Rattle.history.proofs.Lists.{map-spliced, indexed-same, nth-map-ok, nth-unmap, nth-upFrom, upFrom-nth}
+use Rattle.history.proofs.Lists.{map-spliced, indexed-same, nth-upFrom, upFrom-nth}
 
 module _ {W : Type 0} where
   pub length-answers : (st : State W) → length (answers st) ≡ length (st .origins)
   length-answers st = length-map (st .origins) answer
 
+  -- what the checks of an accepted correction found
+  pub record Passed (st : State W) (c : Correction W) : Type 0 where
+    pub inside : c .at + c .strikes ≤ length (st .origins)
+    pub short : (length (st .origins) - c .strikes) + length (c .enters) ≤ 1048576
+    pub room : length (st .words) + length (c .enters) ≤ 1024
+    pub few : pieces (edited st c .origins) ≤ 256
+
+  pub passed : (st : State W) (c : Correction W) → passes st c ≡ true → Passed st c
+  passed st c = go _ refl _ refl _ refl _ refl
+    where
+      go : (a : Bool) → ltb (length (st .origins)) (c .at + c .strikes) ≡ a →
+          (b : Bool) → ltb 1048576 ((length (st .origins) - c .strikes) + length (c .enters)) ≡ b →
+          (d : Bool) → ltb 1024 (length (st .words) + length (c .enters)) ≡ d →
+          (e : Bool) → ltb 256 (pieces (edited st c .origins)) ≡ e →
+          isOk (cond {A = Result ℕ ℕ} a (Err 1) (cond b (Err 2) (cond d (Err 3) (cond e (Err 4) (Ok ((length (st .origins) - c .strikes) + length (c .enters))))))) ≡ true →
+          Passed st c
+      go false i false j false k false l t =
+          record {
+            inside = ltb-false (length (st .origins)) (c .at + c .strikes) i;
+            short = ltb-false 1048576 ((length (st .origins) - c .strikes) + length (c .enters)) j;
+            room = ltb-false 1024 (length (st .words) + length (c .enters)) k;
+            few = ltb-false 256 (pieces (edited st c .origins)) l;
+          }
+      go false i false j false k true l t = absurd (false≢true t)
+      go false i false j true k e l t = absurd (false≢true t)
+      go false i true j d k e l t = absurd (false≢true t)
+      go true i b j d k e l t = absurd (false≢true t)
+
   -- an accepted correction lies inside the series
   pub fits : (st : State W) (c : Correction W) → passes st c ≡ true → c .at + c .strikes ≤ length (answers st)
-  fits st c h = subst⁻¹ (λ (n : ℕ). c .at + c .strikes ≤ n) (length-answers st) (go (ltb (length (st .origins)) (c .at + c .strikes)) _ refl h)
-    where
-      go : (b : Bool) (rest : Result ℕ ℕ) → ltb (length (st .origins)) (c .at + c .strikes) ≡ b → isOk (cond b (Err 1) rest) ≡ true →
-          c .at + c .strikes ≤ length (st .origins)
-      go true rest e t = absurd (false≢true t)
-      go false rest e t = ltb-false (length (st .origins)) (c .at + c .strikes) e
+  fits st c h = omega (arith, passed st c h .inside, length-answers st)
 
   answers-numbered : (ws : List W) (k : ℕ) → map answer (numbered k ws) ≡ map word ws
   answers-numbered [] k = refl
@@ -57,7 +84,8 @@ module _ {V W : Type 0} (label : ℕ → ℕ → Correction V → Correction W) 
     (one : (k j : ℕ) (ts : List (Turn W)) (st : State W) (c : Correction V) → passes st (label k j c) ≡ true → P k j ts st →
     P k (suc j) (ts ++ (record { met = st; made = label k j c } ∷ [])) (edited st (label k j c)))
     (pass : (k j : ℕ) (ts : List (Turn W)) (st : State W) → P k j ts st → P k (suc j) ts st)
-    (next : (k j : ℕ) (ts : List (Turn W)) (st : State W) → P k j ts st → P (suc k) 0 ts st) where
+    (next : (k j : ℕ) (ts : List (Turn W)) (st : State W) → P k j ts st → P (suc k) 0 ts st)
+    (tidies : (k j : ℕ) (ts : List (Turn W)) (st : State W) → P k j ts st → P k j ts (tidied st)) where
   keeps-one : (k j : ℕ) (ts : List (Turn W)) (st : State W) (c : Correction V) → P k j ts st → P k (suc j) (ts ++ turn st (label k j c)) (corrected st (label k j c))
   keeps-one k j ts st c h = go (passes st (label k j c)) refl
     where
@@ -92,6 +120,7 @@ module _ {V W : Type 0} (label : ℕ → ℕ → Correction V → Correction W) 
   keeps-call k ts st (batch cs whole) h =
       let ds = indexed (label k) 0 cs in
       either (whole && allPass st ds) k ts (turnsOf st ds) (correctedAll st ds) st (keeps-all k 0 ts st cs h) h
+  keeps-call k ts st tidy h = none-taken k 0 ts (tidied st) (tidies k 0 ts st h)
 
   -- the calls with their labels, the first of them call k
   abbrev from : ℕ → List (Call V) → List (Call W)
@@ -113,13 +142,15 @@ module _ {V W : Type 0} (label : ℕ → ℕ → Correction V → Correction W) 
 
 -- the same of the calls as they are
 module _ {W : Type 0} (P : List (Turn W) → State W → Type 0)
-    (one : (ts : List (Turn W)) (st : State W) (c : Correction W) → passes st c ≡ true → P ts st → P (ts ++ (record { met = st; made = c } ∷ [])) (edited st c)) where
+    (one : (ts : List (Turn W)) (st : State W) (c : Correction W) → passes st c ≡ true → P ts st → P (ts ++ (record { met = st; made = c } ∷ [])) (edited st c))
+    (tidies : (ts : List (Turn W)) (st : State W) → P ts st → P ts (tidied st)) where
   call-same : (c : Call W) → mapCall (λ j d. d) c ≡ c
   call-same (correct c) = refl
   call-same (draft cs kept) = ap (λ (l : List (Correction W)). draft l kept) (indexed-same (λ j d. d) (λ j d. refl) cs)
   call-same (batch cs whole) = ap (λ (l : List (Correction W)). batch l whole) (indexed-same (λ j d. d) (λ j d. refl) cs)
+  call-same tidy = refl
 
   pub keeps : (calls : List (Call W)) (st : State W) → P [] st → P (turns st calls) (ran st calls)
   keeps calls st h =
       subst (λ (l : List (Call W)). P (turns st l) (ran st l)) (indexed-same (λ k. mapCall (λ j d. d)) (λ k. call-same) calls)
-      (keeps-labelled (λ k j c. c) (λ k j. P) (λ k j. one) (λ k j ts s p. p) (λ k j ts s p. p) calls st h .1)
+      (keeps-labelled (λ k j c. c) (λ k j. P) (λ k j. one) (λ k j ts s p. p) (λ k j ts s p. p) (λ k j. tidies) calls st h .1)

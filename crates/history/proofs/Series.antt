@@ -11,6 +11,7 @@ use Rattle.series.specs.declared.cell.Cell.the-variants.{Fault}
 use Rattle.series.specs.Faults.{past-base}
 use Rattle.series.specs.Lists.{nth, spliced, upFrom}
 use Rattle.journal.specs.Machine.{State, Correction, place, word, answers, start, edited}
+use Rattle.journal.proofs.Tidying.{answers-tidied}
 use Rattle.history.specs.Calls.{Call, ran}
 use Rattle.history.specs.Laid.{cellOf, laid, readings, corrections}
 use Rattle.history.specs.History.{Turn, accepted, allStruck, allEntered}
@@ -51,7 +52,7 @@ module _ {W : Type 0} where
   balance n calls =
       let long : length (answers {W = W} (start n)) ≡ n = simp (length-map, length-upFrom) in
       keeps (λ (ts : List (Turn W)) (st : State W). length (answers st) + allStruck (map of ts) ≡ n + allEntered (map of ts))
-      (λ ts st c e h. balance-step n st c ts (fits st c e) h)
+      (λ ts st c e h. balance-step n st c ts (fits st c e) h) (λ ts st h. omega (arith, ap length (answers-tidied st)))
       calls (start n) (omega arith)
 
 -- all places of a list in turn
@@ -92,4 +93,4 @@ module _ {W R : Type 0} (decode : W → R) (tag : ℕ) (cells : List (Cell R)) w
   pub laid-ran : (calls : List (Call W)) → laid decode tag cells (ran (start (length cells)) calls) ≡ corrections decode cells (accepted (length cells) calls)
   laid-ran calls =
       keeps (λ (ts : List (Turn W)) (st : State W). laid decode tag cells st ≡ corrections decode cells (map of ts))
-      (λ ts st c e h. series-step st c ts h) calls (start (length cells)) laid-start
+      (λ ts st c e h. series-step st c ts h) (λ ts st h. ap (map (cellOf decode tag cells)) (answers-tidied st) ∙ h) calls (start (length cells)) laid-start

@@ -9,9 +9,11 @@ use Rattle.std.specs.declared.result.Result.the-variants.{Ok}
 use Rattle.std.proofs.shelf.Tests.{cases-lt}
 use Rattle.series.specs.Lists.{nth, spliced, indexed}
 use Rattle.journal.specs.Machine.{State, Correction, Answer, place, word, answers, start, edited}
+use Rattle.journal.proofs.Nths.{none, nth-map-ok, nth-unmap}
+use Rattle.journal.proofs.Tidying.{answers-tidied}
 use Rattle.history.specs.Calls.{Call, ran}
 use Rattle.history.specs.History.{Turn, turns, Entry, Item, entry, labelCorrection, labelled, EnteredIn, StruckIn, KnownIn, Once}
-use Rattle.history.proofs.Lists.{Ways, before, fresh, behind, ways, unways, none, nth-unmap, nth-map-ok, nth-more, nth-end, nth-last}
+use Rattle.history.proofs.Lists.{Ways, before, fresh, behind, ways, unways, nth-more, nth-end, nth-last}
 use Rattle.history.proofs.Runs.{fits, answers-edited, at-start, from-start, keeps-labelled}
 use Rattle.history.proofs.Bases.{not-word}
 
@@ -281,4 +283,5 @@ module _ {W : Type 0} where
       (λ k j ts st c e inv. inv-edited n k j ts st c inv (fits st (labelCorrection k j c) e))
       (λ k j ts st inv. later n k j k (suc j) ts (answers st) (before-more k j) inv)
       (λ k j ts st inv. later n k j (suc k) 0 ts (answers st) (before-call k j) inv)
+      (λ k j ts st inv. subst⁻¹ (Inv n k j ts) (answers-tidied st) inv)
       calls (start n) (inv-start n)

@@ -19,7 +19,7 @@ use Rattle.series.specs.declared.cell.Cell.{Cell}
 use Rattle.series.specs.declared.cell.Cell.the-variants.{Reading}
 use Rattle.series.specs.Lists.{nth, indexed}
 use Rattle.journal.specs.Machine.{State, Correction, correction, Answer, place, word, answers, start, passes, corrected, allPass}
-use Rattle.history.specs.Calls.{Call, correct, draft, batch, called, ran}
+use Rattle.history.specs.Calls.{Call, correct, draft, batch, tidy, called, ran}
 use Rattle.history.specs.Laid.{laid, corrections}
 
 pub record Turn (W : Type 0) : Type 0 where
@@ -41,6 +41,7 @@ module _ {W : Type 0} where
   turnsIn st (correct c) = turn st c
   turnsIn st (draft cs kept) = cond kept (turnsOf st cs) []
   turnsIn st (batch cs whole) = cond (whole && allPass st cs) (turnsOf st cs) []
+  turnsIn st tidy = []
 
   -- the turns of a history
   abbrev pub turns : State W → List (Call W) → List (Turn W)
@@ -75,6 +76,7 @@ abbrev pub mapCall : {V W : Type 0} → (ℕ → Correction V → Correction W) 
 mapCall f (correct c) = correct (f 0 c)
 mapCall f (draft cs kept) = draft (indexed f 0 cs) kept
 mapCall f (batch cs whole) = batch (indexed f 0 cs) whole
+mapCall f tidy = tidy
 
 module _ {W : Type 0} where
   -- the entry of word i of correction j of call k

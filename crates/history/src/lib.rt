@@ -2,7 +2,7 @@
 ghost use Rattle.history.specs.History.{History-law};
 
 // Start a journal for a base's length, make any corrections, drafts and batches on it, refused ones
-// among them, and lay it on the base. Then, for words and readings of any types:
+// among them, tidy it at any points, and lay it on the base. Then, for words and readings of any types:
 //
 // An item is a base place or an entered word, the latter told by the point at which it was entered
 // and never by its value. Each base place and each word of an accepted correction stands at exactly

@@ -69,7 +69,7 @@ drop-stretch s f (suc n) (suc a) =
 pub part-stretch : (s : Source) (f n a b : ℕ) → part a b (stretch s f n) ≡ stretch s (f + a) (min b n - a)
 part-stretch s f n a b = ap (drop a) (take-stretch s f n b) ∙ drop-stretch s f (min b n) a
 
-length-part : (a b : ℕ) (os : Os) → length (part a b os) ≤ b - a
+pub length-part : (a b : ℕ) (os : Os) → length (part a b os) ≤ b - a
 length-part a b os = omega (arith, length-drop a (take b os), length-take b os)
 
 -- the piece at a place ends where all do
@@ -87,15 +87,18 @@ part-more a b xs k d lt =
     ap (part a b) (spread-more xs k d lt)
     ∙ part-append a b (spread (take k xs)) (stretch (getD xs k d .source) (getD xs k d .first) (getD xs k d .count))
 
+-- a part of what the first pieces give, and of what the others give
+pub part-split : (a b : ℕ) (xs : List Piece) (k : ℕ)
+    → part a b (spread xs) ≡ part a b (spread (take k xs)) ++ part (a - length (spread (take k xs))) (b - length (spread (take k xs))) (spread (drop k xs))
+part-split a b xs k = ap (part a b) (spread-split xs k) ∙ part-append a b (spread (take k xs)) (spread (drop k xs))
+
 -- what the first pieces give makes no more pieces than what all give
 pub pieces-fewer : (a b : ℕ) (front : Os) (xs : List Piece) (k : ℕ)
     → pieces (front ++ part a b (spread (take k xs))) ≤ pieces (front ++ part a b (spread xs))
 pieces-fewer a b front xs k =
     let rest : Os = part (a - length (spread (take k xs))) (b - length (spread (take k xs))) (spread (drop k xs)) in
     let e : front ++ part a b (spread xs) ≡ (front ++ part a b (spread (take k xs))) ++ rest
-    = ap (λ (os : Os). front ++ part a b os) (spread-split xs k)
-    ∙ ap (λ (os : Os). front ++ os) (part-append a b (spread (take k xs)) (spread (drop k xs)))
-    ∙ sym (append-assoc front (part a b (spread (take k xs))) rest) in
+    = ap (λ (os : Os). front ++ os) (part-split a b xs k) ∙ sym (append-assoc front (part a b (spread (take k xs))) rest) in
     subst (λ (os : Os). pieces (front ++ part a b (spread (take k xs))) ≤ pieces os) (sym e) (pieces-front (front ++ part a b (spread (take k xs))) rest)
 
 -- a turn of the loop that appends the part from `a` up to `b`

@@ -4,6 +4,7 @@ use mathlib.Core.List.{List, [], _∷_, _++_, map}
 use Prim.Native.Nat.{ℕ, zero, suc, _+_, _<_, _≤_}
 use native.Mathlib.Omega.{arith}
 use lib.ListN.{length, take, drop, getD}
+use lib.Seq.{drop-cons}
 use Rattle.std.proofs.shelf.Lists.{append-assoc, map-append, take-map, drop-map, getD-at, getD-append-left, length-push}
 use Rattle.std.specs.declared.result.Result.the-variants.{Ok}
 use Rattle.series.specs.Lists.{nth, spliced, upFrom}
@@ -55,6 +56,13 @@ filled-numbered front (w ∷ more) all k n e =
     let rest : map (filled all) (stretch Entered (suc k) (length more)) ≡ numbered (suc k) more =
     filled-numbered (front ++ w ∷ []) more all (suc k) (omega (arith, length-push front w)) (e ∙ sym (append-assoc front (w ∷ []) more)) in
     ap (λ (x : ℕ). entered k x ∷ map (filled all) (stretch Entered (suc k) (length more))) here ∙ ap (λ (xs : List (Origin ℕ)). entered k w ∷ xs) rest
+
+-- words from a number on fill the origins numbered from there on
+pub filled-entered : (ws : List ℕ) (a n : ℕ) → a + n ≤ length ws → numbered a (take n (drop a ws)) ≡ map (filled ws) (stretch Entered a n)
+filled-entered ws a zero h = refl
+filled-entered ws a (suc n) h =
+    ap (λ (vs : List ℕ). numbered a (take (suc n) vs)) (drop-cons ws a 0 (omega arith))
+    ∙ ap (λ (os : List (Origin ℕ)). entered a (getD ws a 0) ∷ os) (filled-entered ws (suc a) n (omega arith))
 
 -- words at the end do not change what was filled in before
 filled-append : (ws more : List ℕ) (f b u : ℕ) (os : List O) → u ≤ length ws → Well f b u os → map (filled (ws ++ more)) os ≡ map (filled ws) os

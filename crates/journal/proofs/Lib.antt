@@ -1,11 +1,21 @@
-mod Joins
+pub mod Joins
 mod Spreads
-mod Counts
+pub mod Counts
 mod Pushes
 mod Cuts
 mod Finds
-mod Places
+pub mod Places
 mod Fills
 mod Outcomes
 mod Journals
 mod Corrections
+pub mod Nths
+pub mod Gathered
+pub mod Rivals
+pub mod Tidying
+pub mod Folding
+pub mod Truths
+mod Layouts
+mod Finished
+mod Walks
+mod Folds

@@ -4,7 +4,7 @@ use mathlib.Core.Bool.{true}
 use mathlib.Core.List.{List, [], _∷_, _++_}
 use Prim.Native.Nat.{ℕ, zero, suc, _+_, _-_, _<_, _≤_}
 use native.Mathlib.Omega.{arith}
-use lib.ListN.{length, take, drop, length-append, length-take, length-drop}
+use lib.ListN.{length, take, drop, getD, length-append, length-take, length-drop}
 use Rattle.std.proofs.shelf.Lists.{append-nil}
 use Rattle.std.proofs.shelf.Tests.{leb-true, le-leb, and-parts, and-from}
 use Rattle.series.specs.Lists.{spliced}
@@ -19,20 +19,20 @@ abbrev Os : Type 0
 Os = List (Origin (Unit {0}))
 
 -- a kept piece lies inside the length started for, at `from` or past it; an entered one inside the words in use
-abbrev Lies : Source → ℕ → ℕ → ℕ → ℕ → ℕ → Type 0
+abbrev pub Lies : Source → ℕ → ℕ → ℕ → ℕ → ℕ → Type 0
 Lies Kept from first count started used = (from ≤ first) × (first + count ≤ started)
 Lies Entered from first count started used = first + count ≤ used
 
 -- where the kept pieces after a piece may begin
-abbrev past : Source → ℕ → ℕ → ℕ
+abbrev pub past : Source → ℕ → ℕ → ℕ
 past Kept from end = end
 past Entered from end = from
 
 -- the tests on pieces, one piece after another
-abbrev Placed : ℕ → ℕ → ℕ → List Piece → Type 0
+abbrev pub Placed : ℕ → ℕ → ℕ → List Piece → Type 0
 Placed f b u ps = (rise f b (of-source Kept ps) ≡ true) × (within u (of-source Entered ps) ≡ true)
 
-placed-first : (s : Source) (a n f b u : ℕ) (ps : List Piece) → Placed f b u (piece s a n ∷ ps) → Lies s f a n b u × Placed (past s f (a + n)) b u ps
+pub placed-first : (s : Source) (a n f b u : ℕ) (ps : List Piece) → Placed f b u (piece s a n ∷ ps) → Lies s f a n b u × Placed (past s f (a + n)) b u ps
 placed-first Kept a n f b u ps h =
     let x = and-parts _ _ (h .0) in
     let y = and-parts _ _ (x .1) in
@@ -42,6 +42,14 @@ placed-first Entered a n f b u ps h = let x = and-parts _ _ (h .1) in (leb-true 
 placed-more : (s : Source) (a n f b u : ℕ) (ps : List Piece) → Lies s f a n b u → Placed (past s f (a + n)) b u ps → Placed f b u (piece s a n ∷ ps)
 placed-more Kept a n f b u ps l h = (and-from _ _ (le-leb f a (l .0)) (and-from _ _ (le-leb (a + n) b (l .1)) (h .0)), h .1)
 placed-more Entered a n f b u ps l h = (h .0, and-from _ _ (le-leb (a + n) u l) (h .1))
+
+-- where the piece at a place lies
+pub lies-at : (f b u : ℕ) (ps : List Piece) (k : ℕ) (d : Piece) → k < length ps → Placed f b u ps
+    → (g : ℕ) × Lies (getD ps k d .source) g (getD ps k d .first) (getD ps k d .count) b u
+lies-at f b u [] k d lt h = absurd (omega arith)
+lies-at f b u (p ∷ ps) zero d lt h = (f, placed-first (p .source) (p .first) (p .count) f b u ps h .0)
+lies-at f b u (p ∷ ps) (suc k) d lt h =
+    lies-at (past (p .source) f (p .first + p .count)) b u ps k d (omega arith) (placed-first (p .source) (p .first) (p .count) f b u ps h .1)
 
 lies-within : (s : Source) (f a n b u m : ℕ) → b ≤ m → u ≤ m → Lies s f a n b u → a + n ≤ m
 lies-within Kept f a n b u m bm um h = omega (arith, h .1)
@@ -107,7 +115,7 @@ placed-well f b u (p ∷ ps) h =
     let x = placed-first (p .source) (p .first) (p .count) f b u ps h in
     well-stretch (p .source) (p .first) (p .count) f b u (spread ps) (x .0) (placed-well (past (p .source) f (p .first + p .count)) b u ps (x .1))
 
-well-placed : (f b u : ℕ) (ps : List Piece) → Joined ps → Well f b u (spread ps) → Placed f b u ps
+pub well-placed : (f b u : ℕ) (ps : List Piece) → Joined ps → Well f b u (spread ps) → Placed f b u ps
 well-placed f b u [] j w = (refl, refl)
 well-placed f b u (p ∷ ps) j w =
     let h = stretch-well-some (p .source) (p .first) (p .count) f b u (spread ps) (j .0) w in
@@ -127,7 +135,7 @@ abbrev one-word : Origin (Unit {0}) → ℕ
 one-word (base n) = 0
 one-word (entered k w) = 1
 
-abbrev word-count : Os → ℕ
+abbrev pub word-count : Os → ℕ
 word-count [] = 0
 word-count (o ∷ os) = one-word o + word-count os
 
@@ -148,7 +156,7 @@ words-more : (s : Source) (a n : ℕ) (ps : List Piece) → word-count (spread p
 words-more Kept a n ps e = omega (arith, words-kept a n)
 words-more Entered a n ps e = omega (arith, words-entered a n)
 
-words-spread : (ps : List Piece) → word-count (spread ps) ≡ total (of-source Entered ps)
+pub words-spread : (ps : List Piece) → word-count (spread ps) ≡ total (of-source Entered ps)
 words-spread [] = refl
 words-spread (p ∷ ps) =
     words-append (stretch (p .source) (p .first) (p .count)) (spread ps) ∙ words-more (p .source) (p .first) (p .count) ps (words-spread ps)

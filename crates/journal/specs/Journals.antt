@@ -1,5 +1,6 @@
 -- What a journal stands for.
 -- state: the journal as the machine has it.
+-- told-by: what is told of origins that name no words, by these words.
 -- told: an origin, as a journal tells it.
 -- begun: what a start answers, and the state after it.
 -- limits: the refusal of a correction that makes too many places, or next too many words.
@@ -15,7 +16,7 @@ use Rattle.std.specs.declared.result.Result.the-variants.{Ok, Err}
 use Rattle.journal.specs.declared.origin.Origin.{Origin as Written}
 use Rattle.journal.specs.declared.origin.Origin.the-variants as written
 use Rattle.journal.specs.declared.journal.Journal.{Journal}
-use Rattle.journal.specs.Machine.{Origin, base, entered, Answer, place, word, State, start, answers}
+use Rattle.journal.specs.Machine.{Origin, base, entered, Answer, place, word, State, start, answer, answers}
 use Rattle.journal.specs.Pieces.{length-spread}
 use Rattle.journal.specs.Tables.{listed, origins}
 use Rattle.journal.specs.Stores.{in-use}
@@ -32,6 +33,9 @@ state j =
       origins = map (filled (in-use (j .words))) (origins (j .table));
       words = in-use (j .words);
     }
+
+abbrev pub told-by : List ℕ → List (Origin (Unit {0})) → List (Answer ℕ)
+told-by words os = map answer (map (filled words) os)
 
 abbrev pub told : Written → Answer ℕ
 told (written.Base m) = place m

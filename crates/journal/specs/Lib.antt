@@ -4,3 +4,10 @@ pub mod Pieces
 pub mod Tables
 pub mod Stores
 pub mod Journals
+pub mod Tidied
+pub mod Tidiness
+pub mod Folded
+pub mod Lawful
+pub mod Layouts
+pub mod Runs
+pub mod Walks

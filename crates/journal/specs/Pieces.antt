@@ -1,7 +1,8 @@
 -- The pieces of a journal, and what they stand for.
 -- stretch: so many origins in a row, from a number on; entered ones without their words.
 -- spread: the origins that pieces stand for, piece after piece.
--- part: the origins from a place up to another.
+-- part: the elements from a place up to another.
+-- bare: an origin without its word.
 -- joins: two neighbours could be one piece.
 -- gathered: the joined pieces that a list of origins makes.
 -- none-empty, none-joins: no count is zero; no two neighbours could be one.
@@ -39,8 +40,12 @@ abbrev pub spread : List Piece → List (Origin (Unit {0}))
 spread [] = []
 spread (p ∷ ps) = stretch (p .source) (p .first) (p .count) ++ spread ps
 
-abbrev pub part : ℕ → ℕ → List (Origin (Unit {0})) → List (Origin (Unit {0}))
-part start end os = drop start (take end os)
+abbrev pub part : {A : Type 0} → ℕ → ℕ → List A → List A
+part start end xs = drop start (take end xs)
+
+abbrev pub bare : {W : Type 0} → Origin W → Origin (Unit {0})
+bare (base m) = base m
+bare (entered k w) = entered k tt
 
 abbrev pub same : Source → Source → Bool
 same Kept Kept = true

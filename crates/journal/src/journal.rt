@@ -3,14 +3,18 @@
 ghost use mathlib.Core.Path.{_≡_};
 ghost use mathlib.Core.Bool.{true};
 ghost use Prim.Native.Nat.{_≤_};
+ghost use lib.ListN.{length as count-of};
 ghost use Rattle.journal.specs.declared.piece.Source.the-variants.{Kept, Entered as EnteredSource};
 ghost use Rattle.journal.specs.Pieces.{none-empty, none-joins, total, of-source, rise, within};
 ghost use Rattle.journal.specs.Tables.{listed};
+ghost use Rattle.journal.specs.Stores.{in-use};
 use crate::table::Table;
 use crate::words::WordStore;
 
 pub mod calls;
 pub mod corrections;
+pub(crate) mod layout;
+pub mod tidy;
 
 // A series has at most this many places.
 pub const MOST_PLACES: u32 = 1048576;
@@ -34,4 +38,6 @@ pub struct Journal {
     ghost few: { table .used ≤ 256 },
     ghost room: { words .used ≤ 1024 },
     ghost based: { started ≤ 1048576 },
+    // The store holds every word in use.
+    ghost stored: { count-of (in-use words) ≡ words .used },
 }

@@ -1,6 +1,6 @@
 // A piece: a stretch of the edited series that comes from one source, its numbers in a row.
 ghost use mathlib.Core.Path.{_≡_};
-ghost use Prim.Native.Nat.{_+_, _-_, _<_, _^_};
+ghost use Prim.Native.Nat.{_+_, _-_, _<_, _≤_, _^_};
 ghost use Rattle.journal.specs.Pieces.{joins, stretch, part};
 
 // Where the places of a piece come from: the base, or the words that corrections entered.
@@ -35,7 +35,8 @@ impl Piece {
     // its count may be zero.
     pub(crate) fn cut(&self, at: u32, start: u32, end: u32) -> Piece
         requires { ⌜ now self .first + now self .count < 2 ^ 32 ⌝ }
-        ensures { λ r. ⌜ stretch (r .source) (r .first) (r .count) ≡ part (start - at) (end - at) (stretch (now (self .entry) .source) (now (self .entry) .first) (now (self .entry) .count)) ⌝ }
+        ensures ends { λ r. ⌜ (r .source ≡ now (self .entry) .source) × (r .first + r .count ≤ now (self .entry) .first + now (self .entry) .count) ⌝ }
+        ensures places { λ r. ⌜ stretch (r .source) (r .first) (r .count) ≡ part (start - at) (end - at) (stretch (now (self .entry) .source) (now (self .entry) .first) (now (self .entry) .count)) ⌝ }
     {
         let from = start.saturating_sub(at);
         let to = end.saturating_sub(at).min(self.count);

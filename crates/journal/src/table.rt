@@ -96,7 +96,7 @@ impl Table {
     }
 
     // Appends a piece, joined to the last one where it follows on.
-    fn push_joined(&mut self, piece: Piece) -> Result<(), Refusal>
+    pub(crate) fn push_joined(&mut self, piece: Piece) -> Result<(), Refusal>
         requires tidy { ⌜ Tidy (now self) ⌝ }
         requires short { ⌜ count-of (origins (now self)) + piece .count ≤ 1048576 ⌝ }
         ensures { λ r. ⌜ Appended (now (self .entry)) (now (self .exit)) (stretch (piece .source) (piece .first) (piece .count)) r ⌝ }

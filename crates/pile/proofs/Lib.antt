@@ -2,4 +2,6 @@ mod Lays
 mod Turns
 mod Drafts
 mod Notes
+mod Leads
 mod Starts
+mod Folds

@@ -13,10 +13,9 @@ use Rattle.journal.specs.Journals.{state, begun}
 use Rattle.journal.specs.Machine.{State, start}
 use Rattle.history.specs.Calls.{Call, ran}
 use Rattle.history.specs.History.{Law}
-use Rattle.history.specs.Laid.{laid}
-use Rattle.history.proofs.Histories.{history-law}
 use Rattle.pile.specs.declared.laid.Laid.{Laid}
 use Rattle.pile.specs.LaidCells.{laid-on, laid-cells}
+use Rattle.pile.proofs.Leads.{law-led}
 
 begun-fits : (st : State ℕ) (n : ℕ) → n ≤ 1048576 → begun st n .1 ≡ start n
 begun-fits st n h = let t : ltb 1048576 n ≡ false = le-ltb 1048576 n h in rw t
@@ -30,7 +29,5 @@ pub law-of-laid : {B R : Type 0} (word : R → ℕ) (reading : ℕ → R) (cells
     → l ≡ laid-on base (l .journal) tag → state (l .journal) ≡ ran (start (length (cells base))) calls
     → Law (length (cells base)) calls word reading (state (l .journal)) (cells base) (laid-cells reading cells l)
 law-of-laid {B} {R} word reading cells base tag calls l lies ends =
-    let n = length (cells base) in
-    let at : State ℕ → Type 0 = λ s. Law n calls word reading s (cells base) (laid reading tag (cells base) s) in
-    let reads : List (Cell R) → Type 0 = λ xs. Law n calls word reading (state (l .journal)) (cells base) xs in
-    subst reads (sym (ap (laid-cells reading cells) lies)) (subst at (sym ends) (history-law ℕ R word reading (cells base) tag calls))
+    let reads : List (Cell R) → Type 0 = λ xs. Law (length (cells base)) calls word reading (state (l .journal)) (cells base) xs in
+    subst reads (sym (ap (laid-cells reading cells) lies)) (law-led word reading tag (cells base) (state (l .journal)) calls ends)

@@ -1,3 +1,5 @@
 pub mod LaidCells
 pub mod Heard
 pub mod Outcomes
+pub mod Led
+pub mod Neighbours

@@ -1,5 +1,6 @@
 -- What calls come to, told by numbers.
--- outcome: of a correction, its answer; of a batch, its answer; of a draft, how many of its corrections were accepted.
+-- outcome: of a correction, its answer; of a batch, its answer; of a draft, how many of its corrections were accepted; or that the journal
+-- was tidied.
 -- by-outcome: an outcome of the code, its refusals told by numbers: the one definition that goes with it.
 -- outcome-of: what a call comes to in a state.
 -- carried: that, and the state after it.
@@ -18,20 +19,22 @@ use Rattle.records.specs.Batches.{batch-outcome}
 use Rattle.records.specs.Faults.{by-fault}
 use Rattle.history.specs.Calls.{called}
 use Rattle.pile.specs.declared.call.Call.{Call as Written}
-use Rattle.pile.specs.declared.call.Call.the-variants.{Enter, Strike, Replace, Batch, Draft}
+use Rattle.pile.specs.declared.call.Call.the-variants.{Enter, Strike, Replace, Batch, Draft, Tidy}
 use Rattle.pile.specs.declared.outcome.Outcome.{Outcome as Noted}
-use Rattle.pile.specs.declared.outcome.Outcome.the-variants.{Corrected, Batched, Drafted}
+use Rattle.pile.specs.declared.outcome.Outcome.the-variants.{Corrected, Batched, Drafted, Tidied}
 use Rattle.pile.specs.Heard.{heard}
 
 pub data Outcome : Type 0 where
   correcting : Result ℕ ℕ → Outcome
   batching : Result ℕ (ℕ × Option ℕ) → Outcome
   drafting : ℕ → Outcome
+  tidying : Outcome
 
 abbrev pub by-outcome : Noted → Outcome
 by-outcome (Corrected r) = correcting (by-number r)
 by-outcome (Batched r) = batching (by-fault r)
 by-outcome (Drafted n) = drafting n
+by-outcome Tidied = tidying
 
 -- how many corrections in turn are accepted
 abbrev pub passing : State ℕ → List (Correction ℕ) → ℕ
@@ -44,6 +47,7 @@ outcome-of st (Strike place count) = correcting (check st (correction place coun
 outcome-of st (Replace place count words) = correcting (check st (correction place count (words .now)))
 outcome-of st (Batch bytes) = batching (batch-outcome st (bytes .now) .0)
 outcome-of st (Draft corrections keep) = drafting (passing st (map asked (corrections .now)))
+outcome-of st Tidy = tidying
 
 -- what a call comes to, and the state after it
 abbrev pub carried : State ℕ → Written → Outcome × State ℕ

@@ -26,4 +26,6 @@ pub enum Call<'a> {
         corrections: &'a [Correction<'a>],
         keep: bool,
     },
+    // Tidy the journal.
+    Tidy,
 }

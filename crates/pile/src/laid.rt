@@ -7,6 +7,7 @@ ghost use Rattle.series.specs.Refusals.{by-number, with-ok};
 ghost use Rattle.journal.specs.Machine.{answers};
 ghost use Rattle.journal.specs.Journals.{state, told};
 ghost use Rattle.pile.specs.LaidCells.{laid-on, laid-cells, laid-few};
+ghost use Rattle.pile.specs.Led.{Balanced, Tells-item, Reads-item};
 use journal::journal::Journal;
 use journal::origin::Origin;
 use series::base::Base;
@@ -14,6 +15,9 @@ use series::cell::Cell;
 use series::fault::Fault;
 use series::reading::Reading;
 use series::refusal::Refusal;
+
+pub mod fold;
+pub mod traced;
 
 // The base is held by value beside a plain journal.
 #[derive(Drop)]
@@ -39,9 +43,11 @@ impl<B: Base> Laid<B> {
     }
 
     // Where a place comes from: a place of the base beneath, or a word entered in this journal.
-    // Refuses with NoSuchPlace exactly at or past the length.
+    // Refuses with NoSuchPlace exactly at or past the length. Whatever calls led a journal that fits to
+    // this one, what is told is the item that stands there.
     pub fn origin(&self, place: u32) -> Result<Origin, Refusal>
-        ensures { λ r. ⌜ by-number (with-ok told r) ≡ nth (answers (state (now (self .entry) .journal))) place ⌝ }
+        ensures answer { λ r. ⌜ by-number (with-ok told r) ≡ nth (answers (state (now (self .entry) .journal))) place ⌝ }
+        ensures stands { λ r. ⌜ Tells-item (count (B·Base .cells (now (self .entry) .base))) (state (now (self .entry) .journal)) place (by-number (with-ok told r)) ⌝ }
     {
         self.journal.origin(place)
     }
@@ -54,11 +60,21 @@ pub impl<B: Base> Base for Laid<B> as LaidBase {
 
     ghost few = { laid-few (Kind·Reading .reading) (B·Base .cells) };
 
-    fn length(&self) -> u32 {
+    // Whatever calls led a journal that fits to this one, the length and all struck are together the
+    // base's length and all entered.
+    fn length(&self) -> u32
+        ensures length { λ r. ⌜ r ≡ count (laid-cells (Kind·Reading .reading) (B·Base .cells) (now (self .entry))) ⌝ }
+        ensures balance { λ r. ⌜ Balanced (count (B·Base .cells (now (self .entry) .base))) (state (now (self .entry) .journal)) r ⌝ }
+    {
         self.journal.length()
     }
 
-    fn read(&self, place: u32) -> Result<Cell<B::Kind>, Refusal> {
+    // Whatever calls led a journal that fits to this one, a base place reads as the base's cell, and an
+    // entry as its word's reading.
+    fn read(&self, place: u32) -> Result<Cell<B::Kind>, Refusal>
+        ensures cell { λ r. ⌜ by-number r ≡ nth (laid-cells (Kind·Reading .reading) (B·Base .cells) (now (self .entry))) place ⌝ }
+        ensures stands { λ r. ⌜ Reads-item (Kind·Reading .reading) (B·Base .cells (now (self .entry) .base)) (state (now (self .entry) .journal)) place (by-number r) ⌝ }
+    {
         match self.journal.origin(place)? {
             Origin::Base(at) => match self.base.read(at) {
                 Ok(cell) => Ok(cell),

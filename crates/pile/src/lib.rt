@@ -1,5 +1,7 @@
-// Journals laid on bases, one on another, and whole histories of one journal.
+// Journals laid on bases, one on another; places followed down, neighbours folded, and whole histories
+// of one journal.
 pub mod call;
 pub mod laid;
 pub mod outcome;
 pub mod replay;
+pub mod traced;

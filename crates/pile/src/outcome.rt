@@ -10,4 +10,6 @@ pub enum Outcome {
     Batched(Result<u16, BatchFault>),
     // A draft: how many of its corrections were accepted, whether it was kept or not.
     Drafted(usize),
+    // The journal was tidied.
+    Tidied,
 }

@@ -72,6 +72,10 @@ pub fn carry_out(journal: &mut Journal, call: &Call<'_>) -> Outcome
             corrections,
             keep,
         )),
+        Call::Tidy => {
+            journal.tidy();
+            Outcome::Tidied
+        }
     }
 }
 

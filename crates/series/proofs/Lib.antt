@@ -1,2 +1,3 @@
 pub mod Nths
 mod Faults
+mod Flats

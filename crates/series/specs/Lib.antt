@@ -5,3 +5,4 @@ pub mod Faults
 pub mod Words
 pub mod Bottoms
 pub mod Checked
+pub mod Flattened

@@ -7,13 +7,14 @@ use Prim.Native.Nat.{ℕ}
 use Rattle.std.specs.declared.result.Result.{Result}
 use Rattle.std.specs.declared.result.Result.the-variants.{Ok, Err}
 use Rattle.series.specs.declared.refusal.Refusal.{Refusal}
-use Rattle.series.specs.declared.refusal.Refusal.the-variants.{NoSuchPlace, TooLong, TooManyWords, TooManyPieces, BytesEnd, UnknownBit, ZeroField, BufferShort}
+use Rattle.series.specs.declared.refusal.Refusal.the-variants.{NoSuchPlace, TooLong, TooManyWords, TooManyPieces, NotForLower, BytesEnd, UnknownBit, ZeroField, BufferShort}
 
 abbrev pub number : Refusal → ℕ
 number NoSuchPlace = 1
 number TooLong = 2
 number TooManyWords = 3
 number TooManyPieces = 4
+number NotForLower = 5
 number BytesEnd = 6
 number UnknownBit = 7
 number ZeroField = 8

@@ -47,6 +47,13 @@ impl<B: Base<Kind = Interval>> Check<B> {
     {
         Check { base, tag, limit }
     }
+
+    // The base that is checked.
+    pub fn base(&self) -> &B
+        ensures { λ r. ⌜ now r ≡ now (self .entry) .base ⌝ }
+    {
+        &self.base
+    }
 }
 
 pub impl<B: Base<Kind = Interval>> Base for Check<B> as CheckBase {

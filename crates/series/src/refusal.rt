@@ -12,6 +12,8 @@ pub enum Refusal {
     TooManyWords,
     // More than 256 pieces.
     TooManyPieces,
+    // The upper journal was not started for the lower one's edited length.
+    NotForLower,
     // The bytes end too early.
     BytesEnd,
     // A bit of a map without meaning stands.
@@ -32,6 +34,7 @@ impl Refusal {
             Refusal::TooLong => 2,
             Refusal::TooManyWords => 3,
             Refusal::TooManyPieces => 4,
+            Refusal::NotForLower => 5,
             Refusal::BytesEnd => 6,
             Refusal::UnknownBit => 7,
             Refusal::ZeroField => 8,

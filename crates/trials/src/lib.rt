@@ -3,19 +3,27 @@
 #[cfg(test)]
 mod tests {
     use journal::draft::Draft;
+    use journal::fold::fold;
     use journal::journal::Journal;
     use journal::origin::Origin;
+    use journal::walk::Run;
     use pile::call::Call;
     use pile::laid::Laid;
     use pile::laid::LaidBase;
     use pile::laid::fits;
+    use pile::laid::fold::fold_neighbours;
+    use pile::laid::traced::LaidTraced;
     use pile::outcome::Outcome;
     use pile::replay::replay;
+    use pile::traced::Traced;
+    use pile::traced::nominal::NominalTraced;
     use profile::packed::Packed;
     use profile::packed::calls::PackedBase;
     use series::base::Base;
     use series::cell::Cell;
     use series::event::Event;
+    use series::flatten::FlattenFault;
+    use series::flatten::flatten;
     use series::interval::Interval;
     use series::nominal::Nominal;
     use series::nominal::calls::NominalBase;
@@ -36,6 +44,17 @@ mod tests {
         match cell {
             Cell::Fault(fault) => fault.cause == cause && fault.tag == tag && fault.place == place,
             Cell::Reading(_) => false,
+        }
+    }
+
+    // The place of the fault at which flattening stopped.
+    fn fault_place(answer: Result<u32, FlattenFault>) -> Option<u32> {
+        let Err(stop) = answer else {
+            return None;
+        };
+        match stop {
+            FlattenFault::AtPlace { place, fault: _ } => Some(place),
+            FlattenFault::TooShort => None,
         }
     }
 
@@ -146,5 +165,80 @@ mod tests {
         check(matches!(outcomes[1], Outcome::Corrected(Err(Refusal::NoSuchPlace))))?;
         check(matches!(outcomes[2], Outcome::Batched(Ok(1))))?;
         check(matches!(outcomes[3], Outcome::Drafted(0)))
+    }
+
+    // Two journals of ten and seven places, folded; and the fold laid where the two lay.
+    #[test]
+    fn folds() -> Result<(), Fail> {
+        let mut lower = Journal::new();
+        lower.start(10)?;
+        lower.strike(2, 3)?;
+        let mut upper = Journal::new();
+        upper.start(7)?;
+        upper.strike(1, 2)?;
+        let mut third = Journal::new();
+        check(matches!(fold(&lower, &upper, &mut third), Ok(5)))?;
+        check(third.pieces().len() == 2)?;
+        check_eq(third.pieces()[1].first, 6)?;
+        check_eq(third.pieces()[1].count, 4)?;
+        check(matches!(fold(&upper, &lower, &mut third), Err(Refusal::NotForLower)))?;
+        check_eq(third.length(), 5)?;
+        let reading = Interval {
+            amount: 5,
+            status: 0,
+        };
+        let pile = Laid::new(Laid::new(Nominal::new(reading, 10)?, lower, 3), upper, 4);
+        check(matches!(pile.trace(1), Ok(Origin::Base(6))))?;
+        let both = fold_neighbours(&pile)?;
+        check(matches!(both.origin(1), Ok(Origin::Base(6))))
+    }
+
+    // Struck words stay in use until tidying; a walk hands out a run for each piece, and then nothing.
+    #[test]
+    fn tidies_and_walks() -> Result<(), Fail> {
+        let mut journal = Journal::new();
+        journal.start(10)?;
+        journal.replace(2, 3, &[70, 71])?;
+        journal.strike(2, 1)?;
+        check_eq(journal.words().len(), 2)?;
+        journal.tidy();
+        check_eq(journal.words().len(), 1)?;
+        let mut walk = journal.walk();
+        check(matches!(walk.next_run(), Some(Run::Kept { place: 0, count: 2 })))?;
+        check(matches!(
+            walk.next_run(),
+            Some(Run::Entered {
+                first: 0,
+                words: [71]
+            })
+        ))?;
+        check(matches!(walk.next_run(), Some(Run::Kept { place: 5, count: 5 })))?;
+        check(walk.next_run().is_none())?;
+        check(walk.next_run().is_none())
+    }
+
+    // A buffer too short, a fault at place 1, and what was written before it.
+    #[test]
+    fn flattens() -> Result<(), Fail> {
+        let bytes = [0, 0, 0, 3, 5, 0, 0, 0, 5, 255, 255, 255, 255];
+        let mut profile = Packed::new(1);
+        check(profile.open(&bytes).is_ok())?;
+        let none = Interval {
+            amount: 9,
+            status: 9,
+        };
+        let mut short = [none; 2];
+        check(matches!(flatten(&profile, &mut short), Err(FlattenFault::TooShort)))?;
+        let mut out = [none; 4];
+        check_eq(fault_place(flatten(&profile, &mut out)), Some(1))?;
+        check_eq(out[0].amount, 5)?;
+        check_eq(out[1].amount, 9)?;
+        let mut journal = Journal::new();
+        journal.start(3)?;
+        journal.replace(1, 1, &[none.to_word()])?;
+        let laid = Laid::new(profile, journal, 3);
+        check(matches!(flatten(&laid, &mut out), Ok(3)))?;
+        check_eq(out[2].amount, -1)?;
+        check_eq(out[3].amount, 9)
     }
 }

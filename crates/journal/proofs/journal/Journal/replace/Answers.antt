@@ -1,6 +1,6 @@
-use mathlib.Core.Path.{_≡_, refl}
+use mathlib.Core.Path.{_≡_, refl, ap}
 use native.Mathlib.Omega.{arith}
-use lib.ListN.{length, length-map}
+use lib.ListN.{length, length-map, length-append}
 use Rattle.std.proofs.shelf.Tests.{false≢true}
 use Rattle.std.proofs.shelf.Results.{err-from-errBy}
 use Rattle.journal.specs.Tables.{origins}
@@ -53,7 +53,7 @@ ghost-self c =
     sound j (c .args .place) (c .args .struck) (c .args .words .now) (c .length-length .result) (c .len-used .result)
     (c .length-length .ensures) (c .len-used .ensures .words) (c .len-used .ensures .used) (omega arith) (c .in-Continue-check-limits .ensures tt)
     (c .in-Continue-table .table) (g .0) (g .1) (c .append .last .self .used) (c .append .ensures .used) in
-    (h .counts, (h .joined, (h .short, (h .kept, (h .inside, (h .counted, (g .0 .0, (omega arith, (j .based, tt)))))))))
+    (h .counts, (h .joined, (h .short, (h .kept, (h .inside, (h .counted, (g .0 .0, (omega arith, (j .based, (omega (arith, ap length (c .append .ensures .words), length-append (in-use (j .words)) (c .args .words .now), c .append .ensures .used, j .stored), tt))))))))))
 
 pub returns : need.returns
 returns c =

@@ -1,6 +1,7 @@
-use mathlib.Core.Path.{sym, subst}
+use mathlib.Core.Path.{sym, _∙_, ap, subst}
 use Prim.Native.Nat.{ℕ, _≤_}
 use native.Mathlib.Omega.{arith}
+use lib.ListN.{length}
 use Rattle.std.proofs.shelf.Tests.{false≢true}
 use Rattle.journal.specs.Tables.{listed, origins}
 use Rattle.journal.specs.Stores.{in-use}
@@ -17,7 +18,7 @@ ghost-self c =
     let used = c .empty .ensures .used in
     let h : Sound n (c .empty .result .used) (listed (c .kept .result)) =
     subst (λ (u : ℕ). Sound n u (listed (c .kept .result))) (sym used) (sound-start (listed (c .kept .result)) n few (tidy .1) (tidy .2) (c .kept .ensures .places)) in
-    (h .counts, (h .joined, (h .short, (h .kept, (h .inside, (h .counted, (tidy .0, (omega arith, (few, tt)))))))))
+    (h .counts, (h .joined, (h .short, (h .kept, (h .inside, (h .counted, (tidy .0, (omega arith, (few, (ap length (c .empty .ensures .none) ∙ sym used, tt))))))))))
 
 pub returns : need.returns
 returns c =

@@ -25,7 +25,7 @@ turn : (c : need.After-cut) → origins (c .loop-piece .self) ++ stretch (c .cut
 turn c =
     step (origins (c .args .self .now)) (origins (c .loop-piece .self)) (stretch (c .cut .result .source) (c .cut .result .first) (c .cut .result .count))
     (c .args .start) (c .args .end) (c .loop-piece .at) (c .args .pieces .now) (c .loop-piece .piece-index) blank (c .loop-piece-test .taken)
-    (c .loop-piece .inv .0) (c .loop-piece .inv .1 .1) (c .cut .ensures)
+    (c .loop-piece .inv .0) (c .loop-piece .inv .1 .1) (c .cut .ensures .places)
 
 pub loop-piece-holds : need.loop-piece-holds
 loop-piece-holds c = (
