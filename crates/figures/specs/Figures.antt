@@ -6,12 +6,11 @@ use Prim.Native.Nat.{ℕ}
 use lib.IntN.{negsuc}
 use lib.ListN.{length}
 use Rattle.std.specs.declared.result.Result.the-variants.{Ok, Err}
-use Rattle.series.specs.declared.interval.Interval.{Interval}
 use Rattle.series.specs.Lists.{nth}
 use Rattle.series.specs.Refusals.{with-ok}
 use Rattle.series.specs.Words.{interval-word, interval-of}
 use Rattle.journal.specs.declared.piece.Source.the-variants.{Kept, Entered}
-use Rattle.journal.specs.Machine.{State, Correction, correction, place, answers, start, check, corrected, correctedAll}
+use Rattle.journal.specs.Machine.{State, Correction, correction, place, answers, start, check, corrected}
 use Rattle.journal.specs.Pieces.{piece, gathered}
 use Rattle.journal.specs.Tidied.{tidied}
 use Rattle.journal.specs.Folded.{fold}

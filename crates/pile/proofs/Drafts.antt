@@ -1,7 +1,7 @@
 -- How many corrections of a draft are accepted, by what is left of them.
-use mathlib.Core.Path.{_≡_, refl, sym, ap, _∙_}
+use mathlib.Core.Path.{_≡_, refl, ap, _∙_}
 use mathlib.Core.Bool.{Bool, true, false, cond}
-use mathlib.Core.List.{List, [], _∷_, map}
+use mathlib.Core.List.{List, map}
 use Prim.Native.Nat.{ℕ, _+_, _<_, _≤_}
 use native.Mathlib.Omega.{arith}
 use lib.ListN.{length, getD, drop}
@@ -12,7 +12,7 @@ use Rattle.std.proofs.shelf.Lists.{at-drop-more, at-drop-all}
 use Rattle.series.specs.declared.refusal.Refusal.{Refusal}
 use Rattle.series.specs.Refusals.{by-number}
 use Rattle.journal.specs.declared.correction.Correction.{Correction as Written}
-use Rattle.journal.specs.Machine.{State, check, passes, corrected}
+use Rattle.journal.specs.Machine.{State, passes, corrected}
 use Rattle.journal.specs.Asked.{asked}
 use Rattle.pile.specs.Outcomes.{passing}
 

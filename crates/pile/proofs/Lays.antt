@@ -1,5 +1,5 @@
 -- What a laid journal answers at a place, from what its journal and its base answer.
-use mathlib.Core.Path.{_≡_, refl, sym, ap, _∙_}
+use mathlib.Core.Path.{_≡_, sym, ap, _∙_}
 use mathlib.Core.List.{List}
 use Prim.Native.Nat.{ℕ}
 use Rattle.std.specs.declared.result.Result.the-variants.{Ok, Err}
@@ -8,7 +8,7 @@ use Rattle.series.specs.Lists.{nth}
 use Rattle.series.specs.Refusals.{with-ok}
 use Rattle.series.proofs.Nths.{nth-mapped}
 use Rattle.journal.specs.declared.origin.Origin.{Origin}
-use Rattle.journal.specs.Machine.{Answer, State, answers}
+use Rattle.journal.specs.Machine.{State, answers}
 use Rattle.journal.specs.Journals.{told}
 use Rattle.history.specs.Laid.{cellOf, laid}
 

@@ -6,8 +6,8 @@ use lib.ListN.{length}
 use Rattle.std.specs.declared.result.Result.{Result}
 use Rattle.series.specs.declared.cell.Cell.{Cell}
 use Rattle.series.specs.Lists.{nth}
-use Rattle.journal.specs.Machine.{State, Answer, answers, start}
-use Rattle.history.specs.Calls.{Call, ran}
+use Rattle.journal.specs.Machine.{State, Answer, answers}
+use Rattle.history.specs.Calls.{Call}
 use Rattle.history.specs.History.{Law, accepted, allStruck}
 use Rattle.history.specs.Laid.{laid}
 use Rattle.history.proofs.Histories.{history-law}

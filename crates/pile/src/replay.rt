@@ -7,7 +7,7 @@ ghost use lib.ListN.{length as count, set};
 ghost use Rattle.journal.specs.Machine.{start, correctedAll};
 ghost use Rattle.journal.specs.Asked.{asked};
 ghost use Rattle.journal.specs.Journals.{state};
-ghost use Rattle.history.specs.Calls.{called, ran};
+ghost use Rattle.history.specs.Calls.{ran};
 ghost use Rattle.history.specs.History.{Law};
 ghost use Rattle.pile.specs.Heard.{heard};
 ghost use Rattle.pile.specs.Outcomes.{by-outcome, passing, carried, outcomes-of, noted};

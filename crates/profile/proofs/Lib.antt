@@ -1,5 +1,4 @@
 mod Aheads
 mod Sizes
 mod Opens
-pub mod Opened
 mod Places

@@ -1,5 +1,5 @@
 -- Faults with equal fields are equal: the ghost field is a fact, with one proof at most.
-use Prim.Native.Nat.{ℕ, _<_}
+use Prim.Native.Nat.{_<_}
 use mathlib.Core.Path.{_≡_}
 use mathlib.Core.HLevel.{isProp→PathP}
 use native.Mathlib.Bridge.{le-prop}

@@ -1,5 +1,4 @@
 // The words of intervals and of events.
-ghost use mathlib.Core.Path.{_≡_};
 ghost use Rattle.series.specs.Words.{Is-interval, interval-word, interval-of, Is-event, event-word, event-of};
 use crate::event::Event;
 use crate::interval::Interval;

@@ -1,9 +1,7 @@
-use mathlib.Core.Path.{_≡_, sym, ap, _∙_}
-use Prim.Native.Nat.{ℕ}
+use mathlib.Core.Path.{sym, ap, _∙_}
 use Rattle.journal.specs.Journals.{state}
-use Rattle.journal.specs.Machine.{State}
 use Rattle.records.proofs.Batching.{batch-state}
-use Rattle.pile.specs.Outcomes.{Outcome, batching, carried}
+use Rattle.pile.specs.Outcomes.{batching, carried}
 use Rattle.pile.proofs.replay.carry_out.Needs as need
 
 pub returns-in-Batch : need.returns-in-Batch

@@ -1,12 +1,11 @@
-use mathlib.Core.Path.{_≡_, refl, sym, ap, _∙_}
-use mathlib.Core.Bool.{Bool, cond}
-use mathlib.Core.List.{List, map}
-use Prim.Native.Nat.{ℕ, zero-le, _+_}
+use mathlib.Core.Path.{refl, sym, ap, _∙_}
+use mathlib.Core.List.{map}
+use Prim.Native.Nat.{zero-le}
 use native.Mathlib.Omega.{arith}
 use Rattle.std.specs.Results.{isOk}
 use Rattle.journal.specs.Asked.{asked}
 use Rattle.journal.specs.Journals.{state}
-use Rattle.journal.specs.Machine.{State, corrected, correctedAll}
+use Rattle.journal.specs.Machine.{corrected, correctedAll}
 use Rattle.pile.proofs.Turns.{turns-more, turns-all}
 use Rattle.pile.proofs.Drafts.{ok-by-number, counted, passing-more, passing-all}
 use Rattle.pile.proofs.replay.correct_all.Needs as need

@@ -1,6 +1,5 @@
-use mathlib.Core.Path.{_≡_, refl, sym, _∙_}
-use Prim.Native.Nat.{_≤_, _<_}
-use lib.ListN.{length, length-replicate}
+use mathlib.Core.Path.{sym}
+use lib.ListN.{length-replicate}
 use Rattle.std.proofs.shelf.Tests.{ltb-true, ltb-false}
 use Rattle.series.proofs.Nths.{bounded-fits, bounded-over}
 use Rattle.series.proofs.nominal.Nominal.new.Needs as need

@@ -1,6 +1,5 @@
 use mathlib.Core.Path.{sym, refl}
 use lib.ListN.{length-map}
-use borrow.Author.Needs.{needs}
 use Rattle.std.proofs.shelf.Tests.{ltb-true, ltb-false, false≢true}
 use Rattle.series.proofs.Nths.{bounded-fits, bounded-over}
 use Rattle.series.proofs.register.Register.fill.Needs as need
