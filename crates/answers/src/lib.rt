@@ -1,4 +1,6 @@
 // What the console answers of a journal by itself: changes, views and records, each with its text.
+#![tactic(auto)]
+
 pub mod changes;
 pub mod record_texts;
 mod texts;

@@ -1,4 +1,6 @@
 // Commands of the console: from a line's bytes to a typed command, or to what is wrong with it.
+#![tactic(auto)]
+
 mod arguments;
 mod building;
 pub mod command;

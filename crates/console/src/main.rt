@@ -1,4 +1,6 @@
 // Reads commands from standard input, a line each, and prints an answer line for each.
+#![tactic(auto)]
+
 use session::session::Session;
 use std::alloc::AllocError;
 use std::env;

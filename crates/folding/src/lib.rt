@@ -1,4 +1,6 @@
 // Two journals of a pile folded to one, and what is true of every journal.
+#![tactic(auto)]
+
 ghost use Rattle.folding.specs.Journals.{JournalLaw};
 ghost use Rattle.folding.specs.Piles.{FoldLaw};
 

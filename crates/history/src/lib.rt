@@ -1,4 +1,6 @@
 // The history of a journal: what stands where after any calls, and what is read there.
+#![tactic(auto)]
+
 ghost use Rattle.history.specs.History.{HistoryLaw};
 
 // Start a journal for a base's length, make any corrections, drafts and batches on it, refused ones

@@ -1,4 +1,6 @@
 // The journal: accepted corrections, held beside a series that is never written.
+#![tactic(auto)]
+
 pub mod correction;
 pub mod draft;
 pub mod fold;

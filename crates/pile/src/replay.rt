@@ -92,7 +92,7 @@ pub fn replay<B: Base>(base: B, tag: u8, calls: &[Call<'_>], outcomes: &mut [Out
     ensures state { state result.journal ≡ ran (start (count (B.Base.cells base))) (map heard calls.now) }
     ensures lies { result ≡ laid_on base result.journal tag }
     ensures outcomes { map by_outcome outcomes.new ≡ noted (outcomes_of (start (count (B.Base.cells base))) calls.now) (map by_outcome outcomes.old) }
-    ensures law { Law (count (B.Base.cells base)) (map heard calls.now) Kind-as-Reading.word Kind-as-Reading.reading (state result.journal) (B.Base.cells base) (laid_cells Kind-as-Reading.reading B.Base.cells result) }
+    ensures law { Law (count (B.Base.cells base)) (map heard calls.now) B.Kind.Reading.word B.Kind.Reading.reading (state result.journal) (B.Base.cells base) (laid_cells B.Kind.Reading.reading B.Base.cells result) }
 {
     let mut journal = Journal::new();
     // No base is longer than a journal may be started for.

@@ -1,8 +1,10 @@
 // Reads a packed profile and a batch of corrections from standard input, and prints the corrected series.
-use anyhow::anyhow;
+#![tactic(auto)]
+
 use listing::readout::read_out;
 use listing::refused::ReadoutError;
 use std::io::{Read, Write};
+use std::process::ExitCode;
 use std::{env, io};
 
 const HELP: &str = "usage: readout < INPUT
@@ -37,37 +39,37 @@ fn input(rt: &HostRuntime) -> io::Result<Vec<u8>> {
 }
 
 // What went wrong outside of the input, on standard error.
-fn complain(rt: &HostRuntime, text: &str) -> anyhow::Result<()> {
+fn complain(rt: &HostRuntime, text: &str) -> anyhow::Result<ExitCode> {
     eprintln!(rt; "readout: {text}")?;
-    Err(text.into())
+    Ok(ExitCode::FAILURE)
 }
 
-fn run(rt: &HostRuntime) -> anyhow::Result<()> {
+fn run(rt: &HostRuntime) -> anyhow::Result<ExitCode> {
     let bytes = match input(rt) {
         Ok(bytes) => bytes,
         Err(_) => return complain(rt, "standard input cannot be read"),
     };
     match read_out(rt.alloc(), bytes.as_slice()) {
         Ok(text) => match rt.stdout().write_all(text.as_bytes()) {
-            Ok(()) => Ok(()),
+            Ok(()) => Ok(ExitCode::SUCCESS),
             Err(_) => complain(rt, "standard output cannot be written"),
         },
         Err(ReadoutError::Refused(refused)) => {
             println!(rt; "{refused}")?;
-            Err(anyhow!("refused"))
+            Ok(ExitCode::FAILURE)
         }
         Err(ReadoutError::NoMemory) => complain(rt, "no memory for the listing"),
     }
 }
 
-fn main(rt: HostRuntime) -> anyhow::Result<()> {
+fn main(rt: HostRuntime) -> anyhow::Result<ExitCode> {
     let mut args = env::args(&rt)?.skip(1);
     match args.next() {
         None => run(&rt),
         Some(word) => {
             if word.as_str() == "--help" || word.as_str() == "-h" {
                 rt.print(HELP)?;
-                return Ok(());
+                return Ok(ExitCode::SUCCESS);
             }
             complain(&rt, "takes no arguments but --help; see readout --help")
         }

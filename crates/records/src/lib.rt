@@ -1,4 +1,6 @@
 // Correction records and batches of them: bytes in and out.
+#![tactic(auto)]
+
 pub mod batch;
 pub mod fault;
 pub mod laws;

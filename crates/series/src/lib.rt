@@ -1,5 +1,7 @@
 // Series that one can only read: kinds of reading, cells and faults, refusals, the interface of a
 // base, the bottoms (a register, a nominal base), the check layer, and flattening.
+#![tactic(auto)]
+
 pub mod base;
 pub mod cell;
 pub mod check;

@@ -1,5 +1,7 @@
 // Runs of calls at limits that readout's size keeps out of its reach, and of bases that it has no use
 // for. What these calls answer is proved where they stand; this shows that it can be run.
+#![tactic(auto)]
+
 #[cfg(test)]
 mod tests {
     use journal::draft::Draft;

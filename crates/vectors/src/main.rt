@@ -1,5 +1,7 @@
 // Reads inputs of readout, a line of hex digits each, and prints what readout prints for each, with an
 // empty line after it.
+#![tactic(auto)]
+
 ghost use Rattle.std.specs.Prelude.{◌<◌, IfSome};
 
 use anyhow::anyhow;

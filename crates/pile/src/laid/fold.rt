@@ -15,7 +15,7 @@ use series::refusal::Refusal;
 // NotForLower, TooManyWords, TooManyPieces.
 pub fn fold_neighbours<B: Base>(pile: &Laid<Laid<B>>) -> Result<Journal, Refusal>
     ensures outcome { by_number (with_ok state result) ≡ folded_to (state pile.now.base.journal) (state pile.now.journal) }
-    ensures law { IfOk result (λ both. Replaces Kind-as-Reading.reading (B.Base.cells pile.now.base.base) (state pile.now.base.journal) (state pile.now.journal) (state both)) }
+    ensures law { IfOk result (λ both. Replaces B.Kind.Reading.reading (B.Base.cells pile.now.base.base) (state pile.now.base.journal) (state pile.now.journal) (state both)) }
 {
     let mut both = Journal::new();
     fold(&pile.base.journal, &pile.journal, &mut both)?;

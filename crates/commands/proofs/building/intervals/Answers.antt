@@ -7,8 +7,8 @@ use Rattle.commands.proofs.building.intervals.Goals as goal
 pub loop-word-preserved : goal.loop-word-preserved
 loop-word-preserved c =
     let e = map_more interval_of c.args.words.now c.loop-word.word-index 0 (omega arith) in
-    let f = c.from-word.ensures in
-    pushed (c.from-word.result ∷ []) c.loop-word.invariant c.in-ok-push.was c.push.ensures.items ∙ (cc)
+    let f = c.from_word.ensures in
+    pushed (c.from_word.result ∷ []) c.loop-word.invariant c.in_ok-push.was c.push.ensures.items ∙ (cc)
 
 pub returns : goal.returns
 returns c = c.loop-word.invariant ∙ ap (λ (ws : List ℕ). map interval_of ws) (take_all c.loop-word.word-index c.args.words.now (omega arith))

@@ -5,13 +5,13 @@ use Rattle.commands.proofs.numerals.number.Goals as goal
 
 pub loop-b-init : goal.loop-b-init
 loop-b-init c =
-    let e = c.if-is-empty.ensures in
+    let e = c.if-is_empty.ensures in
     (left_none c.args.most c.args.field.now (grind (arith, nat_tests)), omega arith)
 
-pub returns-in-err-value : goal.returns-in-err-value
-returns-in-err-value c =
-    rw c.from-residual.ensures
-    (left_stop c.args.most c.loop-b.value c.loop-b.b-index c.args.field.now c.loop-b-test.true c.in-err-value.ensures
+pub returns-in_err-value : goal.returns-in_err-value
+returns-in_err-value c =
+    rw c.from_residual.ensures
+    (left_stop c.args.most c.loop-b.value c.loop-b.b-index c.args.field.now c.loop-b-test.true c.in_err-value.ensures
     ∙ c.loop-b.invariant.0)
 
 pub loop-b-preserved : goal.loop-b-preserved
@@ -19,8 +19,8 @@ loop-b-preserved c =
     let most = c.args.most in
     let n = c.loop-b.value in
     let i = c.loop-b.b-index in
-    let m = c.in-ok-value.value in
-    let e = c.in-ok-value.ensures in
+    let m = c.in_ok-value.value in
+    let e = c.in_ok-value.ensures in
     (left_more most n i m c.args.field.now c.loop-b-test.true e ∙ c.loop-b.invariant.0, next_most most n (get_or c.args.field.now i 0) m e)
 
 pub returns : goal.returns

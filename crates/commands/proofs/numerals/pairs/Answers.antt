@@ -16,19 +16,19 @@ pub loop-rest-preserved : goal.loop-rest-preserved
 loop-rest-preserved c =
     let rest = c.loop-rest.rest.now in
     let h : 2 ≤ length rest = search rules in
-    rw c.in-ok-push.ensures.items
+    rw c.in_ok-push.ensures.items
     (behind_more (vec_items c.loop-rest.bytes) rest c.in-Some.b h c.in-Some.ensures ∙ c.loop-rest.invariant)
 
-pub returns-then-is-empty : goal.returns-then-is-empty
-returns-then-is-empty c =
+pub returns-then-is_empty : goal.returns-then-is_empty
+returns-then-is_empty c =
     let rest = c.loop-rest.rest.now in
-    let e = c.if-is-empty.ensures in
+    let e = c.if-is_empty.ensures in
     let h : length rest ≡ 0 = grind (arith, nat_tests) in
     behind_all (vec_items c.loop-rest.bytes) rest h ∙ c.loop-rest.invariant
 
-pub returns-else-is-empty : goal.returns-else-is-empty
-returns-else-is-empty c =
+pub returns-else-is_empty : goal.returns-else-is_empty
+returns-else-is_empty c =
     let rest = c.loop-rest.rest.now in
-    let e = c.if-is-empty.ensures in
+    let e = c.if-is_empty.ensures in
     let h : length rest ≡ 1 = grind (arith, nat_tests) in
     behind_odd (vec_items c.loop-rest.bytes) rest h ∙ c.loop-rest.invariant

@@ -13,37 +13,37 @@ use Rattle.journal.proofs.Layouts.{length-renumbered}
 use Rattle.journal.proofs.Truths.{lawful_state, lawful_fold}
 use Rattle.journal.proofs.Folds.{fold_crowded, fold-accepted}
 use Rattle.journal.proofs.fold.fold.Goals as goal
-use Rattle.journal.proofs.fold.fold.Goals.{After-started-2, In-ok-layout}
+use Rattle.journal.proofs.fold.fold.Goals.{After-started-2, In_ok-layout}
 
-fits : (c : goal.In-ok-layout) → (state c.args.upper.now).started ≡ length (state c.args.lower.now).origins
+fits : (c : goal.In_ok-layout) → (state c.args.upper.now).started ≡ length (state c.args.lower.now).origins
 fits c = sym c.started.ensures ∙ c.if-started-length.false ∙ c.length.ensures
 
-room : (c : goal.In-ok-layout) → length (folded (state c.args.lower.now) (state c.args.upper.now)).words ≤ 1024
-room c = let h = c.in-ok-layout.ensures in omega (arith, h.used, h.room)
+room : (c : goal.In_ok-layout) → length (folded (state c.args.lower.now) (state c.args.upper.now)).words ≤ 1024
+room c = let h = c.in_ok-layout.ensures in omega (arith, h.used, h.room)
 
-accepted : (c : goal.In-ok-layout) → pieces (folded (state c.args.lower.now) (state c.args.upper.now)).origins ≤ 256
+accepted : (c : goal.In_ok-layout) → pieces (folded (state c.args.lower.now) (state c.args.upper.now)).origins ≤ 256
     → fold (state c.args.lower.now) (state c.args.upper.now) ≡ Ok (folded (state c.args.lower.now) (state c.args.upper.now))
 accepted c = fold-accepted (state c.args.lower.now) (state c.args.upper.now) (state c.args.third.now) (fits c) (room c)
 
 -- the layout makes the folded journal, unless it has too many pieces
 completes : (c : goal.After-started-2)
-    → Completes c.in-ok-layout.layout c.started-2.result (map (followed (answers (state c.args.lower.now))) (answers (state c.args.upper.now)))
+    → Completes c.in_ok-layout.layout c.started-2.result (map (followed (answers (state c.args.lower.now))) (answers (state c.args.upper.now)))
 completes c = (
-  c.in-ok-layout.ensures,
+  c.in_ok-layout.ensures,
   λ few.
       subst⁻¹ (λ (n : ℕ). Lawful (neat n (map (followed (answers (state c.args.lower.now))) (answers (state c.args.upper.now))))) c.started-2.ensures
       (lawful_fold (state c.args.lower.now) (state c.args.upper.now) (folded (state c.args.lower.now) (state c.args.upper.now))
-      (lawful_state c.args.lower.now) (lawful_state c.args.upper.now) (accepted (goal.at.After-started-2 c).In-ok-layout few)),
+      (lawful_state c.args.lower.now) (lawful_state c.args.upper.now) (accepted (goal.at.After-started-2 c).In_ok-layout few)),
 )
 
 pub finish-requires : goal.finish-requires
 finish-requires c = (map (followed (answers (state c.args.lower.now))) (answers (state c.args.upper.now)), completes c)
 
-pub returns-in-err-third : goal.returns-in-err-third
-returns-in-err-third c =
-    let p = err_from_is_err_and c.from-residual-in-err-third.result c.from-residual-in-err-third.ensures.1 in
-    let g = c.in-err-third.ensures _ (completes (goal.at.returns-in-err-third c).After-started-2) in
-    let w = (goal.at.returns-in-err-third c).In-ok-layout in
+pub returns-in_err-third : goal.returns-in_err-third
+returns-in_err-third c =
+    let p = err_from_is_err_and c.from_residual-in_err-third.result c.from_residual-in_err-third.ensures.1 in
+    let g = c.in_err-third.ensures _ (completes (goal.at.returns-in_err-third c).After-started-2) in
+    let w = (goal.at.returns-in_err-third c).In_ok-layout in
     record {
       outcome = rw (p.1, p.2, g.0) (fold_crowded (state c.args.lower.now) (state c.args.upper.now) (state c.args.third.now) (fits w) (room w) g.1);
       same = λ _. refl;
@@ -54,14 +54,14 @@ returns c =
     let lower = state c.args.lower.now in
     let upper = state c.args.upper.now in
     let xs = map (followed (answers lower)) (answers upper) in
-    let g = c.in-ok-third.ensures _ (completes (goal.at.returns c).After-started-2) in
-    let w = (goal.at.returns c).In-ok-layout in
-    let is : state c.in-ok-third.field-0 ≡ folded lower upper = g ∙ ap (λ (n : ℕ). neat n xs) c.started-2.ensures in
+    let g = c.in_ok-third.ensures _ (completes (goal.at.returns c).After-started-2) in
+    let w = (goal.at.returns c).In_ok-layout in
+    let is : state c.in_ok-third.field-0 ≡ folded lower upper = g ∙ ap (λ (n : ℕ). neat n xs) c.started-2.ensures in
     let long : c.length-2.result ≡ length (folded lower upper).origins =
     omega (arith, c.length-2.ensures, length-renumbered 0 xs, length-map (answers upper) (followed (answers lower)), length-map upper.origins answer) in
     record {
       outcome =
           ap₂ (λ (n : ℕ) (s : State ℕ). let a : Result ℕ ℕ × State ℕ = (Ok n, s) in a) long is
-          ∙ ap (fold_answer (state c.args.third.now)) (sym (accepted w (omega (arith, ap (λ (s : State ℕ). pieces s.origins) is, (lawful_state c.in-ok-third.field-0).few))));
+          ∙ ap (fold_answer (state c.args.third.now)) (sym (accepted w (omega (arith, ap (λ (s : State ℕ). pieces s.origins) is, (lawful_state c.in_ok-third.field-0).few))));
       same = λ e. absurd (false≢true e);
     }

@@ -15,8 +15,8 @@ use Rattle.journal.proofs.fold.laid_through.Goals.{In-Kept, In-Entered}
 
 pub loop-run-init : goal.loop-run-init
 loop-run-init c =
-    let same = c.into-iter-run-iterator.ensures.into-iter-gives in
-    halfway_none c.new-layout.result c.args.lower.now c.args.upper.now (coming c.into-iter-run-iterator.result) c.requires c.new-layout.ensures
+    let same = c.into_iter-run-iterator.ensures.into_iter_gives in
+    halfway_none c.new-layout.result c.args.lower.now c.args.upper.now (coming c.into_iter-run-iterator.result) c.requires c.new-layout.ensures
     (ap coming same ∙ c.walk-run-items.ensures.runs) (ap (λ (w : Walk). flat_map origins_of (coming w)) same ∙ c.walk-run-items.ensures.origins)
 
 -- the run of a turn, and those to come after it
@@ -38,8 +38,8 @@ entered-turn c =
     ∙ ap (λ (r : Handed). said r ∷ coming c.next.new.self) c.in-Entered.is)
     c.loop-run.invariant
 
-pub overflow-add-place : goal.overflow-add-place
-overflow-add-place c = omega (arith, (kept-turn (goal.at.overflow-add-place c).In-Kept).inside.0, state-few c.args.lower.now)
+pub overflow_add-place : goal.overflow_add-place
+overflow_add-place c = omega (arith, (kept-turn (goal.at.overflow_add-place c).In-Kept).inside.0, state-few c.args.lower.now)
 
 pub take-requires : goal.take-requires
 take-requires c =
@@ -48,19 +48,19 @@ take-requires c =
     halfway_takes c.loop-run.layout (kept_run c.in-Kept.place c.in-Kept.count) (coming c.next.new.self) low (answers (state c.args.upper.now)) t
     (state-few c.args.upper.now) _ (length-through low c.in-Kept.place c.in-Kept.count (coming c.next.new.self) t.inside)
 
-pub loop-run-preserved-in-Continue· : goal.loop-run-preserved-in-Continue·
-loop-run-preserved-in-Continue· c =
+pub loop-run-preserved-in-Continue-1 : goal.loop-run-preserved-in-Continue-1
+loop-run-preserved-in-Continue-1 c =
     halfway_more c.loop-run.layout (kept_run c.in-Kept.place c.in-Kept.count) (coming c.next.new.self) (answers (state c.args.lower.now))
-    (answers (state c.args.upper.now)) (kept-turn (goal.at.loop-run-preserved-in-Continue· c).In-Kept) c.take.new.self c.in-ok-take.ensures
+    (answers (state c.args.upper.now)) (kept-turn (goal.at.loop-run-preserved-in-Continue-1 c).In-Kept) c.take.new.self c.in_ok-take-in-Kept.ensures
 
-pub returns-in-err-take : goal.returns-in-err-take
-returns-in-err-take c =
-    let p = err_from_is_err_and c.from-residual.result c.from-residual.ensures.1 in
-    let g = c.in-err-take.ensures in
+pub returns-in_err-take-in-Kept : goal.returns-in_err-take-in-Kept
+returns-in_err-take-in-Kept c =
+    let p = err_from_is_err_and c.from_residual.result c.from_residual.ensures.1 in
+    let g = c.in_err-take-in-Kept.ensures in
     rw (p.1, p.2) (
       g.0,
       halfway_over c.loop-run.layout (kept_run c.in-Kept.place c.in-Kept.count) (coming c.next.new.self) (answers (state c.args.lower.now))
-          (answers (state c.args.upper.now)) (kept-turn (goal.at.returns-in-err-take c).In-Kept) g.1,
+          (answers (state c.args.upper.now)) (kept-turn (goal.at.returns-in_err-take-in-Kept c).In-Kept) g.1,
     )
 
 pub enter-requires : goal.enter-requires
@@ -72,14 +72,14 @@ enter-requires c =
 pub loop-run-preserved : goal.loop-run-preserved
 loop-run-preserved c =
     halfway_more c.loop-run.layout (entered_run c.in-Entered.first c.in-Entered.words.now) (coming c.next.new.self) (answers (state c.args.lower.now))
-    (answers (state c.args.upper.now)) (entered-turn (goal.at.loop-run-preserved c).In-Entered) c.enter.new.self c.in-ok-enter.ensures
+    (answers (state c.args.upper.now)) (entered-turn (goal.at.loop-run-preserved c).In-Entered) c.enter.new.self c.in_ok-enter-in-Entered.ensures
 
-pub returns-in-err-enter : goal.returns-in-err-enter
-returns-in-err-enter c =
-    let p = err_from_is_err_and c.from-residual-in-err-enter.result c.from-residual-in-err-enter.ensures.1 in
-    let g = c.in-err-enter.ensures in
+pub returns-in_err-enter-in-Entered : goal.returns-in_err-enter-in-Entered
+returns-in_err-enter-in-Entered c =
+    let p = err_from_is_err_and c.from_residual-in_err-enter-in-Entered.result c.from_residual-in_err-enter-in-Entered.ensures.1 in
+    let g = c.in_err-enter-in-Entered.ensures in
     rw (p.1, p.2) (
       g.0,
       halfway_over c.loop-run.layout (entered_run c.in-Entered.first c.in-Entered.words.now) (coming c.next.new.self) (answers (state c.args.lower.now))
-          (answers (state c.args.upper.now)) (entered-turn (goal.at.returns-in-err-enter c).In-Entered) g.1,
+          (answers (state c.args.upper.now)) (entered-turn (goal.at.returns-in_err-enter-in-Entered c).In-Entered) g.1,
     )

@@ -14,13 +14,13 @@ loop-c-preserved c =
     let i = c.loop-c.invariant in
     let st = state c.loop-c.draft.journal.now in
     let after = ap (λ o. o.1) c.replace.ensures.outcome in
-    let passed = c.is-ok.ensures.value ∙ sym (ok_by_number c.replace.result) ∙ ap (λ o. is_ok o.0) c.replace.ensures.outcome in (
+    let passed = c.is_ok.ensures.value ∙ sym (ok_by_number c.replace.result) ∙ ap (λ o. is_ok o.0) c.replace.ensures.outcome in (
       turns_more (λ st cs. corrected_all st (map asked cs)) (λ st k. corrected st (asked k)) (λ st k cs. refl) (λ st. refl)
           st _ c.args.corrections.now c.loop-c.c-index _ c.loop-c-test.true after
           ∙ i.0,
-      passing_more st _ c.args.corrections.now c.loop-c.c-index c.loop-c.accepted c.one-if-accepted.result _ _ c.is-ok.result
-          c.loop-c-test.true after passed c.one-if-accepted.ensures i.1,
-      counted c.is-ok.result c.one-if-accepted.result c.one-if-accepted.ensures i.2,
+      passing_more st _ c.args.corrections.now c.loop-c.c-index c.loop-c.accepted c.one_if-accepted.result _ _ c.is_ok.result
+          c.loop-c-test.true after passed c.one_if-accepted.ensures i.1,
+      counted c.is_ok.result c.one_if-accepted.result c.one_if-accepted.ensures i.2,
       c.replace.ensures.before ∙ i.3,
       c.replace.ensures.follows ∙ i.4,
     )

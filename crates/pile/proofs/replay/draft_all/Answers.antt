@@ -13,13 +13,13 @@ counted drafted journal cs e p = e ∙ ap (λ (j : Journal). passing (state j) (
 pub returns-then-keep : goal.returns-then-keep
 returns-then-keep c =
     record {
-      accepted = counted _ _ c.args.corrections.now c.correct-all-accepted.ensures.accepted c.open-draft.ensures.journal;
+      accepted = counted _ _ c.args.corrections.now c.correct_all-accepted.ensures.accepted c.open-draft.ensures.journal;
       state = search rules;
     }
 
 pub returns-else-keep : goal.returns-else-keep
 returns-else-keep c =
     record {
-      accepted = counted _ _ c.args.corrections.now c.correct-all-accepted.ensures.accepted c.open-draft.ensures.journal;
+      accepted = counted _ _ c.args.corrections.now c.correct_all-accepted.ensures.accepted c.open-draft.ensures.journal;
       state = search rules;
     }

@@ -19,13 +19,13 @@ loop-at-preserved g c =
     let i = c.loop-at.invariant in
     let st = state c.loop-at.journal in
     let calls = c.args.calls.now in
-    let after = ap (λ o. o.1) c.carry-out-outcome.ensures in
-    let told = ap (λ o. o.0) c.carry-out-outcome.ensures in (
+    let after = ap (λ o. o.1) c.carry_out-outcome.ensures in
+    let told = ap (λ o. o.0) c.carry_out-outcome.ensures in (
       turns_more (λ st ks. ran st (map heard ks)) (λ st k. called st (heard k)) (λ st k ks. refl) (λ st. refl)
           st _ calls c.loop-at.at _ c.loop-at-test.true after
           ∙ i.0,
-      ap (λ (outs : List Noted). notes (state c.carry-out-outcome.new.journal) calls (c.loop-at.at + 1) outs) c.note.ensures
-          ∙ notes_more st _ calls c.loop-at.at _ c.loop-at.outcomes c.carry-out-outcome.result c.loop-at-test.true after told
+      ap (λ (outs : List Noted). notes (state c.carry_out-outcome.new.journal) calls (c.loop-at.at + 1) outs) c.note.ensures
+          ∙ notes_more st _ calls c.loop-at.at _ c.loop-at.outcomes c.carry_out-outcome.result c.loop-at-test.true after told
           ∙ i.1,
     )
 
@@ -52,5 +52,5 @@ returns g c =
           sym (notes_all st calls c.loop-at.at c.loop-at.outcomes c.loop-at-test.false)
           ∙ i.1
           ∙ ap (λ (s : State ℕ). noted (outcomes_of s calls) (map by_outcome c.args.outcomes.now)) begins;
-      law = law_of-laid g.Kind.Reading.word g.Kind.Reading.reading cells base c.args.tag (map heard calls) c.new.result lies ends;
+      law = law_of-laid g.B.Kind.Reading.word g.B.Kind.Reading.reading cells base c.args.tag (map heard calls) c.new.result lies ends;
     }

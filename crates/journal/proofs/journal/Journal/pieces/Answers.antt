@@ -9,5 +9,5 @@ use Rattle.journal.proofs.journal.Journal.pieces.Goals as goal
 pub returns : goal.returns
 returns c =
     let j = c.args.self.now in
-    c.as-slice.ensures
+    c.as_slice.ensures
     ∙ sym (gathered-filled (in_use j.words) (origins j.table) ∙ gathered-spread (listed j.table) (joined_fact (listed j.table) j.counts j.joined))

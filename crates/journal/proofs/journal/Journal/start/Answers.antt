@@ -7,15 +7,26 @@ use Rattle.journal.proofs.Places.{Sound, sound-start}
 use Rattle.journal.proofs.Journals.{begun-fits}
 use Rattle.journal.proofs.journal.Journal.start.Goals as goal
 
-pub invariant-of-self : goal.invariant-of-self
-invariant-of-self c =
+pub invariant_of-self : goal.invariant_of-self
+invariant_of-self c =
     let n : ℕ = c.args.length in
     let few : n ≤ 1048576 = omega arith in
     let tidy = c.kept.ensures.tidy in
     let used = c.empty.ensures.used in
     let h : Sound n c.empty.result.used (listed c.kept.result) =
     subst (λ (u : ℕ). Sound n u (listed c.kept.result)) (sym used) (sound-start (listed c.kept.result) n few tidy.1 tidy.2 c.kept.ensures.places) in
-    (h.counts, (h.joined, (h.short, (h.kept, (h.inside, (h.counted, (tidy.0, (omega arith, (few, (ap length c.empty.ensures.none ∙ sym used, tt))))))))))
+    record {
+      counts = h.counts;
+      joined = h.joined;
+      short = h.short;
+      kept = h.kept;
+      inside = h.inside;
+      counted = h.counted;
+      few = tidy.0;
+      room = omega arith;
+      based = few;
+      stored = ap length c.empty.ensures.none ∙ sym used;
+    }
 
 pub returns : goal.returns
 returns c =

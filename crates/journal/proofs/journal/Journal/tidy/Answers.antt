@@ -35,33 +35,24 @@ take-requires c =
     let j = c.args.self.now in
     ([], c.new-layout.ensures, omega (arith, long c, length-map (state j).origins answer, length-map (origins j.table) (filled (in_use j.words)), short j))
 
-pub invariant-of-self : goal.invariant-of-self
-invariant-of-self c =
+pub invariant_of-self : goal.invariant_of-self
+invariant_of-self c =
     let j = c.args.self.now in
     let l = c.take.new.self in
-    let w = (goal.at.invariant-of-self c).After-take in
-    let h = sound j.started (answers (state c.args.self.now)) c.take.new.self (laid w) (law w) in (
-      h.counts,
-      (
-        h.joined,
-        (
-          h.short,
-          (
-            h.kept,
-            (
-              h.inside,
-              (
-                h.counted,
-                (
-                  few j.started (answers (state j)) l (laid w) (law w),
-                  ((laid w).room, (j.based, (stored j.started (answers (state j)) l (laid w) (law w), tt))),
-                ),
-              ),
-            ),
-          ),
-        ),
-      ),
-    )
+    let w = (goal.at.invariant_of-self c).After-take in
+    let h = sound j.started (answers (state c.args.self.now)) c.take.new.self (laid w) (law w) in
+    record {
+      counts = h.counts;
+      joined = h.joined;
+      short = h.short;
+      kept = h.kept;
+      inside = h.inside;
+      counted = h.counted;
+      few = few j.started (answers (state j)) l (laid w) (law w);
+      room = (laid w).room;
+      based = j.based;
+      stored = stored j.started (answers (state j)) l (laid w) (law w);
+    }
 
 pub returns : goal.returns
 returns c =

@@ -19,11 +19,11 @@ pub returns : goal.returns
 returns c =
     let from : ℕ = c.args.start - c.args.at in
     let to : ℕ = min (c.args.end - c.args.at) c.args.self.now.count in
-    let e : c.min-to.result - c.saturating-sub-from.result ≡ to - from = omega arith in
+    let e : c.min-to.result - c.saturating_sub-from.result ≡ to - from = omega arith in
     record {
       ends = (refl, omega arith);
       places =
-          ap (stretch c.args.self.now.source (c.args.self.now.first + c.saturating-sub-from.result)) e
-          ∙ ap (λ (i : ℕ). stretch c.args.self.now.source (c.args.self.now.first + i) (to - from)) c.saturating-sub-from.ensures
+          ap (stretch c.args.self.now.source (c.args.self.now.first + c.saturating_sub-from.result)) e
+          ∙ ap (λ (i : ℕ). stretch c.args.self.now.source (c.args.self.now.first + i) (to - from)) c.saturating_sub-from.ensures
           ∙ sym (part-stretch c.args.self.now.source c.args.self.now.first c.args.self.now.count from (c.args.end - c.args.at));
     }

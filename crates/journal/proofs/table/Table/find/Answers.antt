@@ -11,29 +11,29 @@ use Rattle.journal.proofs.table.Table.find.Goals as goal
 abbrev blank : Piece
 blank = piece Kept 0 0
 
-pub overflow-add-result : goal.overflow-add-result
-overflow-add-result c =
-    let e = c.as-slice-pieces.ensures in
+pub overflow_add-result : goal.overflow_add-result
+overflow_add-result c =
+    let e = c.as_slice-pieces.ensures in
     omega (
       arith,
-      within-at 1048576 c.as-slice-pieces.result.now c.loop-piece.piece-index blank c.loop-piece-test.true (ap (within 1048576) e ∙ c.requires.ends),
+      within-at 1048576 c.as_slice-pieces.result.now c.loop-piece.piece-index blank c.loop-piece-test.true (ap (within 1048576) e ∙ c.requires.ends),
     )
 
 pub returns-then-left-piece : goal.returns-then-left-piece
 returns-then-left-piece c =
-    let ps = c.as-slice-pieces.result.now in
+    let ps = c.as_slice-pieces.result.now in
     sym (find_here ps c.loop-piece.piece-index c.loop-piece.left blank c.loop-piece-test.true c.if-left-piece.true)
     ∙ sym c.loop-piece.invariant
-    ∙ ap (λ (qs : List Piece). nth (spread qs) c.args.place) c.as-slice-pieces.ensures
+    ∙ ap (λ (qs : List Piece). nth (spread qs) c.args.place) c.as_slice-pieces.ensures
 
 pub loop-piece-preserved : goal.loop-piece-preserved
 loop-piece-preserved c =
     c.loop-piece.invariant
-    ∙ find_more c.as-slice-pieces.result.now c.loop-piece.piece-index c.loop-piece.left blank c.loop-piece-test.true c.if-left-piece.false
+    ∙ find_more c.as_slice-pieces.result.now c.loop-piece.piece-index c.loop-piece.left blank c.loop-piece-test.true c.if-left-piece.false
 
 pub returns : goal.returns
 returns c =
-    let ps = c.as-slice-pieces.result.now in
+    let ps = c.as_slice-pieces.result.now in
     sym (ap (λ (qs : List Piece). nth (spread qs) c.loop-piece.left) (drop_all c.loop-piece.piece-index ps c.loop-piece-test.false))
     ∙ sym c.loop-piece.invariant
-    ∙ ap (λ (qs : List Piece). nth (spread qs) c.args.place) c.as-slice-pieces.ensures
+    ∙ ap (λ (qs : List Piece). nth (spread qs) c.args.place) c.as_slice-pieces.ensures

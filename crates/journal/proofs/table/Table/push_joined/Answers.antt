@@ -9,8 +9,8 @@ use Rattle.journal.proofs.table.Table.push_joined.Goals.{else-used-gt0-via-then-
 abbrev blank : Piece
 blank = piece Kept 0 0
 
-pub overflow-add-last : goal.overflow-add-last
-overflow-add-last c =
+pub overflow_add-last : goal.overflow_add-last
+overflow_add-last c =
     let t = c.args.self.now in
     let long : length t.pieces ≡ 256 = search rules in
     omega (arith, last_short t.pieces t.used blank c.if-used-gt0.true (omega arith), c.requires.short)
@@ -25,8 +25,8 @@ returns-then-joins c =
     c.if-used-gt0.true (omega arith) (sym c.if-joins.ensures) in
     ((tidy.0, g.0, g.1), g.2)
 
-pub returns-then-used-ge-MOST-PIECES : goal.returns-then-used-ge-MOST-PIECES
-returns-then-used-ge-MOST-PIECES c =
+pub returns-then-used-ge-MOST_PIECES : goal.returns-then-used-ge-MOST_PIECES
+returns-then-used-ge-MOST_PIECES c =
     elim c.else-used-gt0.branch [
       | else-used-gt0-via-then-used-gt0+else-joins w ↦
           let t = c.args.self.now in
@@ -35,8 +35,8 @@ returns-then-used-ge-MOST-PIECES c =
           let some : 0 < c.args.piece.count = omega arith in
           let e = overfull t.pieces t.used blank c.args.piece some tidy.1 tidy.2 (omega arith)
           (inr (w.if-used-gt0.true, sym w.if-joins.ensures)) in
-          (refl, omega (arith, e, c.if-used-ge-MOST-PIECES.true))
-      | else-used-gt0-via-else-used-gt0 w ↦ absurd (omega (arith, c.if-used-ge-MOST-PIECES.true, w.if-used-gt0.false))
+          (refl, omega (arith, e, c.if-used-ge-MOST_PIECES.true))
+      | else-used-gt0-via-else-used-gt0 w ↦ absurd (omega (arith, c.if-used-ge-MOST_PIECES.true, w.if-used-gt0.false))
     ]
 
 pub returns : goal.returns
@@ -51,4 +51,4 @@ returns c =
       | else-used-gt0-via-else-used-gt0 w ↦ inl (omega (arith, w.if-used-gt0.false))
     ] in
     let g = appended t.pieces t.used blank c.args.piece some tidy.1 tidy.2 (omega arith) alone in
-    ((omega (arith, c.if-used-ge-MOST-PIECES.false), g.0, g.1), g.2)
+    ((omega (arith, c.if-used-ge-MOST_PIECES.false), g.0, g.1), g.2)

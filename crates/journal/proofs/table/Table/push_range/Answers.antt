@@ -37,19 +37,19 @@ loop-piece-init c = (
 pub cut-requires : goal.cut-requires
 cut-requires c = omega (arith, within-at 1048576 c.args.pieces.now c.loop-piece.piece-index blank c.loop-piece-test.true c.requires.ends)
 
-pub push-joined-requires : goal.push-joined-requires
-push-joined-requires c =
+pub push_joined-requires : goal.push_joined-requires
+push_joined-requires c =
     record {
       tidy = c.loop-piece.invariant.1.0;
       short = step_short (origins c.args.self.now) (origins c.loop-piece.self) c.cut.result.source c.cut.result.first c.cut.result.count
           c.args.start c.args.end (spread (take (c.loop-piece.piece-index + 1) c.args.pieces.now)) (turn c) c.requires.short;
     }
 
-pub returns-in-err-push-joined : goal.returns-in-err-push-joined
-returns-in-err-push-joined c =
-    let e = turn (goal.at.returns-in-err-push-joined c).After-cut in
-    let g = c.in-err-push-joined.ensures in
-    let p = err_from_is_err_and c.from-residual.result c.from-residual.ensures.1 in
+pub returns-in_err-push_joined : goal.returns-in_err-push_joined
+returns-in_err-push_joined c =
+    let e = turn (goal.at.returns-in_err-push_joined c).After-cut in
+    let g = c.in_err-push_joined.ensures in
+    let p = err_from_is_err_and c.from_residual.result c.from_residual.ensures.1 in
     rw (p.1, p.2) (
       g.0,
       omega (
@@ -60,8 +60,8 @@ returns-in-err-push-joined c =
       ),
     )
 
-pub overflow-add-at : goal.overflow-add-at
-overflow-add-at c =
+pub overflow_add-at : goal.overflow_add-at
+overflow_add-at c =
     omega (
       arith,
       c.loop-piece.invariant.0,
@@ -73,7 +73,7 @@ overflow-add-at c =
 pub loop-piece-preserved : goal.loop-piece-preserved
 loop-piece-preserved c =
     let e = turn (goal.at.loop-piece-preserved c).After-cut in
-    let g = c.in-ok-push-joined.ensures in (
+    let g = c.in_ok-push_joined.ensures in (
       omega (arith, c.loop-piece.invariant.0, length_more c.args.pieces.now c.loop-piece.piece-index blank c.loop-piece-test.true),
       (g.0, g.1 ∙ e),
     )

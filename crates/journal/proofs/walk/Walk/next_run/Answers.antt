@@ -16,8 +16,8 @@ returns-then-self-pieces c =
     let st = state c.args.self.now.journal.now in
     next_none st.words c.pieces-pieces.result.now (gathered st.origins) c.pieces-pieces.ensures c.args.self.now.next c.if-self-pieces.true
 
-pub slice-bounds-result-end : goal.slice-bounds-result-end
-slice-bounds-result-end c =
+pub slice_bounds-result-end : goal.slice_bounds-result-end
+slice_bounds-result-end c =
     let w = c.args.self.now in
     let m = words_inside w.journal.now c.pieces-pieces.result.now c.words-words.result.now w.next blank c.pieces-pieces.ensures c.words-words.ensures
     c.if-self-pieces.false c.in-Entered.is in

@@ -7,5 +7,5 @@ returns g c =
     let s = c.args.self.now in
     record {
       answer = c.origin.ensures;
-      stands = tells_item g.Kind.Reading.word g.Kind.Reading.reading s.tag (g.B.Base.cells s.base) (state s.journal) c.args.place _ c.origin.ensures;
+      stands = tells_item g.B.Kind.Reading.word g.B.Kind.Reading.reading s.tag (g.B.Base.cells s.base) (state s.journal) c.args.place _ c.origin.ensures;
     }
