@@ -20,11 +20,6 @@ digit_added v x e s t h is ascii p =
     let below : x < 128 = omega (arith, is, digit_ascii v h) in
     p ∙ ap (λ (l : List ℕ). s ++ l) (ascii below) ∙ ap (λ (y : ℕ). s ++ (y ∷ [])) is
 
--- a place and a count, then the words, then the bytes used
-pub added_three : (p b s w u t₀ t₁ t₂ : List ℕ) → t₀ ≡ p ++ (b ++ s) → t₁ ≡ t₀ ++ w → t₂ ≡ t₁ ++ u → t₂ ≡ p ++ (b ++ (s ++ (w ++ u)))
-added_three p b s w u t₀ t₁ t₂ e₀ e₁ e₂ =
-    e₂ ∙ ap (λ (l : List ℕ). l ++ u) (e₁ ∙ ap (λ (l : List ℕ). l ++ w) e₀) ∙ simp append_assoc
-
 -- ---- a record written to a buffer
 
 length_four : (b : Bool) (n : ℕ) → length (cond b [] (bytes_of 4 n)) ≤ 4

@@ -9,7 +9,6 @@ ghost use Rattle.commands.specs.Commands.{owned, by_change};
 ghost use Rattle.answers.specs.Texts.{ok_text, answer_text, separated};
 ghost use Rattle.answers.specs.Changes.{batch_text, draft_answers, kept_text, tidy_text, changed};
 
-use crate::texts::added;
 use crate::told::{BatchText, LengthText};
 use commands::command::{Change, OwnedCorrection};
 use journal::draft::Draft;
@@ -63,7 +62,7 @@ fn push_answer(text: &mut String, answer: Result<u32, Refusal>) -> Result<(), Al
 {
     let separator = if text.is_empty() { "" } else { ", " };
     let answer = LengthText(answer);
-    added(write!(text, "{separator}{answer}"))
+    write!(text, "{separator}{answer}")
 }
 
 // Makes corrections in a draft in turn, a refused one passed over, and tells what each answers.

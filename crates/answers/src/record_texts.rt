@@ -87,10 +87,8 @@ fn read_text(heap: Global, asks: &Correction<'_>, used: usize) -> Result<String,
     let struck = asks.struck;
     let mut text = format!(in heap; "{place} {struck}")?;
     push_words(&mut text, asks.words)?;
-    match write!(text, " used {used}") {
-        Ok(()) => Ok(text),
-        Err(_) => Err(AllocError),
-    }
+    write!(text, " used {used}")?;
+    Ok(text)
 }
 
 // The correction of a record's bytes, or its refusal.

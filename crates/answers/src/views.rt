@@ -7,7 +7,7 @@ ghost use Rattle.journal.specs.Walks.{said};
 ghost use Rattle.answers.specs.Texts.{listed};
 ghost use Rattle.answers.specs.Views.{piece_text, run_text, view_text};
 
-use crate::texts::{added, push_words};
+use crate::texts::push_words;
 use crate::told::OriginText;
 use commands::command::View;
 use journal::journal::Journal;
@@ -22,8 +22,8 @@ fn push_piece(text: &mut String, piece: &Piece) -> Result<(), AllocError>
     let first = piece.first;
     let count = piece.count;
     match piece.source {
-        Source::Kept => added(write!(text, "k{first}+{count}")),
-        Source::Entered => added(write!(text, "e{first}+{count}")),
+        Source::Kept => write!(text, "k{first}+{count}"),
+        Source::Entered => write!(text, "e{first}+{count}"),
     }
 }
 
@@ -67,17 +67,15 @@ fn words_text(heap: Global, words: &[u64]) -> Result<String, AllocError>
 fn push_kept(text: &mut String, place: u32, count: u32) -> Result<(), AllocError>
     ensures { OnOk result (string_bytes text.new ≡ string_bytes text.old ++ run_text (kept_run place count)) }
 {
-    added(write!(text, "kept {place} {count}"))
+    write!(text, "kept {place} {count}")
 }
 
 // Adds a run of entered words to the text.
 fn push_entered(text: &mut String, first: u32, words: &[u64]) -> Result<(), AllocError>
     ensures { OnOk result (string_bytes text.new ≡ string_bytes text.old ++ run_text (entered_run first words.now)) }
 {
-    match write!(text, "words {first}") {
-        Ok(()) => push_words(text, words),
-        Err(_) => Err(AllocError),
-    }
+    write!(text, "words {first}")?;
+    push_words(text, words)
 }
 
 // Adds a run to the text.

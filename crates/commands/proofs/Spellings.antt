@@ -1,8 +1,8 @@
 -- A list of names, one at a time.
 -- found: the first command with this name.
 -- Tests: a comparison of two texts came out so.
-use Rattle.std.proofs.Common.{◌≡◌, ℕ, ◌+◌, ◌<◌, ◌≤◌, Bool, true, false, cond, List, [], ◌∷◌, map, length, get_or, drop, Some, None, Decides, Option, sym, refl, ap, ◌∙◌, Bor, rules}
-use Rattle.std.specs.Cmp.Lexicographic.{Matches}
+use Rattle.std.proofs.Common.{◌≡◌, ℕ, ◌+◌, ◌<◌, ◌≤◌, Bool, true, false, cond, List, [], ◌∷◌, map, length, get_or, drop, Some, None, nat_eq, Option, sym, refl, ap, ◌∙◌, Bor, rules}
+use Rattle.std.specs.Cmp.Lexicographic.{pointwise}
 use Rattle.std.proofs.lemmas.Slice.Eq.{slice_eq-Decides, compares_Decides}
 use Rattle.std.proofs.lemmas.List.{at_drop_more, at_drop_all}
 use Rattle.std.proofs.lemmas.Bool.Decides.{same_from_decides, Decides-eqb}
@@ -16,7 +16,7 @@ unfoldable pub found : List Spelling → List ℕ → Option Verb
 found ps name = named (map (λ (p : Spelling). (p.0.now, p.1)) ps) name
 
 abbrev pub Tests : List ℕ → List ℕ → Bool → Type 0
-Tests xs ys r = Matches (λ (a b : ℕ) (t : Bool). Decides t (a ≡ b)) xs ys r
+Tests xs ys r = r ≡ pointwise nat_eq xs ys
 
 tests_same : (xs ys : List ℕ) (r : Bool) → Tests xs ys r → same xs ys ≡ r
 tests_same xs ys r h = same_from_decides (same xs ys) r (compares_Decides same (search rules) xs ys) (slice_eq-Decides Decides-eqb xs ys r h)

@@ -5,6 +5,7 @@ use session::session::Session;
 use std::alloc::AllocError;
 use std::env;
 use std::io::{Read, Write};
+use std::process::ExitCode;
 
 const HELP: &str = "usage: console < SCRIPT
 
@@ -114,22 +115,22 @@ fn run(rt: &HostRuntime) -> Result<(), Trouble> {
 }
 
 // Says on standard error what went wrong, and ends with status 1.
-fn complain(rt: &HostRuntime, text: &str) -> anyhow::Result<()> {
+fn complain(rt: &HostRuntime, text: &str) -> anyhow::Result<ExitCode> {
     eprintln!(rt; "console: {text}")?;
-    Err(text.into())
+    Ok(ExitCode::FAILURE)
 }
 
-fn main(rt: HostRuntime) -> anyhow::Result<()> {
+fn main(rt: HostRuntime) -> anyhow::Result<ExitCode> {
     let mut args = env::args(&rt)?.skip(1);
     match args.next() {
         None => match run(&rt) {
-            Ok(()) => Ok(()),
+            Ok(()) => Ok(ExitCode::SUCCESS),
             Err(trouble) => complain(&rt, words_of(trouble)),
         },
         Some(word) => {
             if word.as_str() == "--help" || word.as_str() == "-h" {
                 rt.print(HELP)?;
-                return Ok(());
+                return Ok(ExitCode::SUCCESS);
             }
             complain(&rt, "takes no arguments but --help; see console --help")
         }

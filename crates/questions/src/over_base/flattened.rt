@@ -20,10 +20,7 @@ fn push_reading(text: &mut String, reading: &Interval) -> Result<(), AllocError>
     ensures { OnOk result (string_bytes text.new ≡ string_bytes text.old ++ (codes " " ++ reading_text reading.now)) }
 {
     let reading = ReadingText(*reading);
-    match write!(text, " {reading}") {
-        Ok(()) => Ok(()),
-        Err(_) => Err(AllocError),
-    }
+    write!(text, " {reading}")
 }
 
 // Adds readings to a text, each behind a blank.

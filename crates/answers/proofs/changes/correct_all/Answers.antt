@@ -15,22 +15,22 @@ loop-c-preserved c =
     let cs = c.args.corrections.now in
     let at = c.loop-c.c-index in
     let x = c.c-item.result in
-    let ws = c.as-slice.result.now in (
-      left_more st next cs at x ws _ c.loop-c-test.true c.c-item.is c.as-slice.ensures.value c.replace-answer.ensures.outcome
-          (string_bytes c.loop-c.text) (string_bytes c.push-answer.new.text) c.in-ok-push-answer.ensures
+    let ws = c.as_slice.result.now in (
+      left_more st next cs at x ws _ c.loop-c-test.true c.c-item.is c.as_slice.ensures.value c.replace-answer.ensures.outcome
+          (string_bytes c.loop-c.text) (string_bytes c.push_answer.new.text) c.in_ok-push_answer.ensures
           ∙ i.0,
-      turns_more st next cs at x ws _ c.loop-c-test.true c.c-item.is c.as-slice.ensures.value c.replace-answer.ensures.outcome ∙ i.1,
+      turns_more st next cs at x ws _ c.loop-c-test.true c.c-item.is c.as_slice.ensures.value c.replace-answer.ensures.outcome ∙ i.1,
       c.replace-answer.ensures.before ∙ i.2,
       c.replace-answer.ensures.follows ∙ i.3,
     )
 
-pub returns-in-err-push-answer : goal.returns-in-err-push-answer
-returns-in-err-push-answer c =
+pub returns-in_err-push_answer : goal.returns-in_err-push_answer
+returns-in_err-push_answer c =
     let i = c.loop-c.invariant in
-    let p = err_from_is_err_and c.from-residual.result c.from-residual.ensures.1 in
+    let p = err_from_is_err_and c.from_residual.result c.from_residual.ensures.1 in
     record {
-      text = IfOk-from_err c.from-residual.result _ (ap is_err p.1);
-      state = IfOk-from_err c.from-residual.result _ (ap is_err p.1);
+      text = IfOk-from_err c.from_residual.result _ (ap is_err p.1);
+      state = IfOk-from_err c.from_residual.result _ (ap is_err p.1);
       before = c.replace-answer.ensures.before ∙ i.2;
       follows = c.replace-answer.ensures.follows ∙ i.3;
     }

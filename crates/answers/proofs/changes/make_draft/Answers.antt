@@ -10,12 +10,12 @@ returns c =
     let entry = c.args.journal.now in
     let same = c.open-draft.ensures.journal in
     let cs = map owned c.args.corrections.now in
-    let draft = c.correct-all.new.draft in
-    let drafted = c.in-ok-text.ensures in
+    let draft = c.correct_all.new.draft in
+    let drafted = c.in_ok-text.ensures in
     record {
       text =
-          ended_text keep opened entry same cs (string_bytes c.push-str.new.self) (string_bytes c.in-ok-text.text) c.ending.result.now
-          c.in-ok-push-str.ensures.bytes drafted.text c.ending.ensures;
+          ended_text keep opened entry same cs (string_bytes c.push_str.new.self) (string_bytes c.in_ok-text.text) c.ending.result.now
+          c.in_ok-push_str.ensures.bytes drafted.text c.ending.ensures;
       state =
           ended-state keep opened entry same cs _ draft.journal.now draft.before
           (search rules) drafted.state (drafted.before ∙ c.open-draft.ensures.before);

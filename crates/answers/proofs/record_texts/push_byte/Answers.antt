@@ -13,8 +13,8 @@ returns c =
     let u = string_bytes c.push-2.new.self in
     let high : b / 16 < 16 = search rules in
     let low : b % 16 < 16 = search rules in
-    let first = c.in-ok-push.ensures in
-    let second = c.in-ok-push-2.ensures in
+    let first = c.in_ok-push.ensures in
+    let second = c.in_ok-push-2.ensures in
     added_two s t u (hex_digit (b / 16) ∷ []) (hex_digit (b % 16) ∷ [])
     (digit_added (b / 16) c.hex_digit.result (encode c.hex_digit.result) s t high c.hex_digit.ensures first.ascii first.bytes)
-    (digit_added (b % 16) c.hex-digit-2.result (encode c.hex-digit-2.result) t u low c.hex-digit-2.ensures second.ascii second.bytes)
+    (digit_added (b % 16) c.hex_digit-2.result (encode c.hex_digit-2.result) t u low c.hex_digit-2.ensures second.ascii second.bytes)

@@ -6,7 +6,7 @@ use Rattle.answers.proofs.record_texts.push_bytes.Goals as goal
 pub loop-byte-preserved : goal.loop-byte-preserved
 loop-byte-preserved c =
     grown_more hex_pair (string_bytes c.args.text.now) c.args.bytes.now c.loop-byte.byte-index (string_bytes c.loop-byte.text)
-    (string_bytes c.push-byte.new.text) 0 c.loop-byte-test.true c.in-ok-push-byte.ensures c.loop-byte.invariant
+    (string_bytes c.push_byte.new.text) 0 c.loop-byte-test.true c.in_ok-push_byte.ensures c.loop-byte.invariant
 
 pub returns : goal.returns
 returns c =

@@ -9,6 +9,6 @@ pub returns : goal.returns
 returns c =
     let some : 0 < length c.args.pieces.now = search rules in
     let d = piece Kept 0 0 in
-    listed_first (codes " ") piece_text c.args.pieces.now d (string_bytes c.push-piece.new.text) (string_bytes c.push-pieces.new.text) some
-    (added_first (string_bytes c.new-text.result) (string_bytes c.push-piece.new.text) (piece_text (get_or c.args.pieces.now 0 d)) c.new-text.ensures.bytes c.in-ok-push-piece.ensures)
-    c.in-ok-push-pieces.ensures
+    listed_first (codes " ") piece_text c.args.pieces.now d (string_bytes c.push_piece.new.text) (string_bytes c.push_pieces.new.text) some
+    (added_first (string_bytes c.new-text.result) (string_bytes c.push_piece.new.text) (piece_text (get_or c.args.pieces.now 0 d)) c.new-text.ensures.bytes c.in_ok-push_piece.ensures)
+    c.in_ok-push_pieces.ensures

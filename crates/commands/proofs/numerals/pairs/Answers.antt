@@ -16,7 +16,7 @@ pub loop-rest-preserved : goal.loop-rest-preserved
 loop-rest-preserved c =
     let rest = c.loop-rest.rest.now in
     let h : 2 ≤ length rest = search rules in
-    rw c.in_ok-push.ensures.items
+    rw c.in_ok-push-in-Some.ensures.items
     (behind_more (vec_items c.loop-rest.bytes) rest c.in-Some.b h c.in-Some.ensures ∙ c.loop-rest.invariant)
 
 pub returns-then-is_empty : goal.returns-then-is_empty

@@ -5,7 +5,7 @@ use Rattle.questions.proofs.over_base.answer_over.Goals as goal
 
 pub returns-in-Laid : goal.returns-in-Laid
 returns-in-Laid g c =
-    told_as c.answer-question.result (ap (inquiry_text (g.B.Base.cells c.args.base)) (sym c.in-Laid.is)) c.answer-question.ensures
+    told_as c.answer_question.result (ap (inquiry_text (g.B.Base.cells c.args.base)) (sym c.in-Laid.is)) c.answer_question.ensures
 
 pub returns-in-Pile : goal.returns-in-Pile
 returns-in-Pile g c =

@@ -10,5 +10,5 @@ returns-then-readings-eq0 c =
 pub returns : goal.returns
 returns c =
     let l : 0 < length c.args.readings.now = omega arith in
-    c.in-ok-push-readings.ensures
-    ∙ readings-some c.args.count c.args.readings.now _ (string_bytes c.in-ok-text.text) l c.in-ok-text.ensures.ok
+    c.in_ok-push_readings.ensures
+    ∙ readings-some c.args.count c.args.readings.now _ (string_bytes c.in_ok-text.text) l c.in_ok-text.ensures.ok

@@ -19,7 +19,7 @@ returns c =
     let same_outcome : fold_outcome (state c.journal.result) (state c.journal-2.result) (state c.journal-both.result) ≡ fold_outcome (at d c.args.lower.number) (at d c.args.upper.number) (at d c.args.third.number) = cc in
     record {
       outcome =
-          made-fold d _ c.args.third.number _ (by_number c.fold_answer.result) _ _
-          c.in-ok-text.ensures c.put.ensures (c.fold_answer.ensures.outcome ∙ same_outcome);
+          made-fold d _ c.args.third.number _ (by_number c.fold-answer.result) _ _
+          c.in_ok-text.ensures c.put.ensures (c.fold-answer.ensures.outcome ∙ same_outcome);
       same = search rules;
     }
