@@ -13,8 +13,10 @@ run: target/bin/readout target/bin/console
 	@echo 'answers:'
 	@target/bin/console <sample/try.txt
 
-target/bin/readout target/bin/console &: $(shell find crates -type f) crates.txt
-	rt check readout console
+target/bin/readout target/bin/console: target/bin/%: $(shell find crates -type f -not -path '*/out/*') crates.txt
+	@mkdir -p target/bin
+	cd crates/$* && rt run -- --help >/dev/null
+	cp crates/$*/out/$* target/bin/
 
 test:
 	.ci/run

@@ -2,7 +2,7 @@
 -- draft-answers: what corrections in turn answer.
 -- changed: the answer's text, and the state.
 -- Assumes nothing.
-use Rattle.std.specs.Prelude.{ℕ, Bool, cond, List, [], ◌∷◌, ◌++◌, length, Some, None, Ok, Err, codes, decimal, Option, Result}
+use Rattle.std.specs.Prelude.{ℕ, Bool, cond, List, [], ◌∷◌, ◌++◌, length, Ok, Err, codes, decimal, Option, Result}
 use Rattle.series.specs.Refusals.{with_ok}
 use Rattle.journal.specs.Machine.{State, Correction, check, corrected, corrected_all}
 use Rattle.journal.specs.Journals.{begun}

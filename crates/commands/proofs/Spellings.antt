@@ -1,7 +1,7 @@
 -- A list of names, one at a time.
 -- found: the first command with this name.
 -- Tests: a comparison of two texts came out so.
-use Rattle.std.proofs.Common.{◌≡◌, ℕ, ◌+◌, ◌<◌, ◌≤◌, Bool, true, false, cond, List, [], ◌∷◌, map, length, get_or, drop, Some, None, nat_eq, Option, sym, refl, ap, ◌∙◌, Bor, rules}
+use Rattle.std.proofs.Common.{◌≡◌, ℕ, ◌+◌, ◌<◌, ◌≤◌, Bool, true, false, cond, List, map, length, get_or, drop, Some, None, nat_eq, Option, sym, refl, ap, ◌∙◌, Bor, rules}
 use Rattle.std.specs.Cmp.Lexicographic.{pointwise}
 use Rattle.std.proofs.lemmas.Slice.Eq.{slice_eq-Decides, compares_Decides}
 use Rattle.std.proofs.lemmas.List.{at_drop_more, at_drop_all}

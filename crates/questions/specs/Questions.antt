@@ -4,7 +4,6 @@
 -- inquiry-text: of either.
 -- Assumes nothing.
 use Rattle.std.specs.Prelude.{ℕ, cond, List, [], ◌∷◌, ◌++◌, length, Ok, Err, codes, decimal, Result, ◌==◌}
-use Rattle.std.specs.List.{flat_map}
 use Rattle.std.specs.Fmt.{signed_decimal}
 use Rattle.series.specs.declared.cell.Cell.{Cell}
 use Rattle.series.specs.declared.cell.Cell.TheVariants.{Fault}

@@ -1,11 +1,11 @@
 -- A session's line against the script's: the same, or both longer than a line may be; so what is answered is the same.
-use Rattle.std.proofs.Common.{◌≡◌, ℕ, ◌+◌, ◌<◌, ◌≤◌, Bool, true, false, cond, eqb, ltb, ◌⊎◌, List, [], ◌∷◌, ◌++◌, length, None, Err, Option, sym, refl, ap, ◌∙◌, inl, inr, append-nil, arith, length-append}
+use Rattle.std.proofs.Common.{◌≡◌, ℕ, ◌<◌, Bool, true, false, cond, eqb, ltb, ◌⊎◌, List, [], ◌∷◌, ◌++◌, length, None, Err, Option, sym, refl, ap, ◌∙◌, inl, inr, append-nil, arith, length-append}
 use Rattle.std.proofs.lemmas.Bool.Decides.{nat_tests}
 use Rattle.std.specs.Option.{option_to_list}
 use Rattle.commands.specs.declared.wrong.Wrong.TheVariants.{LineTooLong}
 use Rattle.commands.specs.Parsing.{parsed}
 use Rattle.session.specs.Consoles.{Desk}
-use Rattle.session.specs.Sessions.{Session, answered, reply, opened, next, grown, taken, ended, closed}
+use Rattle.session.specs.Sessions.{Session, answered, reply, opened, next, grown, ended}
 use Rattle.session.specs.Scripts.{lines_from, answers, fed, ScriptLaw}
 
 abbrev Held : List ℕ → List ℕ → Type 0
