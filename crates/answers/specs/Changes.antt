@@ -1,5 +1,5 @@
 -- What a change of a journal answers, and the state after it.
--- draft-answers: what corrections in turn answer.
+-- draft_answers: what corrections in turn answer.
 -- changed: the answer's text, and the state.
 -- Assumes nothing.
 use Rattle.std.specs.Prelude.{ℕ, Bool, cond, List, [], ◌∷◌, ◌++◌, length, Ok, Err, codes, decimal, Option, Result}

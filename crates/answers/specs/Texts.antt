@@ -1,9 +1,9 @@
 -- The words of the console's answers.
--- ok_text, refused-text: ok, or the word refused, and a number.
--- answer-text: what an answer's value prints, or its refusal.
+-- ok_text, refused_text: ok, or the word refused, and a number.
+-- answer_text: what an answer's value prints, or its refusal.
 -- separated: the texts of some things, with a separator between.
 -- listed: the same, or the word none where there is none.
--- hex-text: bytes as pairs of hex digits in lower case.
+-- hex_text: bytes as pairs of hex digits in lower case.
 -- Assumes nothing.
 use Rattle.std.specs.Prelude.{ℕ, ◌+◌, ◌/◌, ◌%◌, cond, List, [], ◌∷◌, ◌++◌, Ok, Err, codes, decimal, Result, nat_lt}
 use Rattle.std.specs.List.{flat_map}

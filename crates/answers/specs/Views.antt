@@ -1,7 +1,7 @@
 -- What is shown of a journal, and of records.
--- view-text: the text of a view.
--- write-text: the bytes of a correction's record.
--- unwrite-text: the correction of a record's bytes.
+-- view_text: the text of a view.
+-- write_text: the bytes of a correction's record.
+-- unwrite_text: the correction of a record's bytes.
 -- Assumes nothing.
 use Rattle.std.specs.Prelude.{ℕ, cond, List, ◌++◌, length, codes, decimal, nat_lt}
 use Rattle.std.specs.List.{flat_map}

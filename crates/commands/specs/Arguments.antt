@@ -2,9 +2,9 @@
 -- front: the first numbers, as many as there are limits.
 -- Within: each number is at most its limit.
 -- number_in: the first field as a number, and the fields after it.
--- first-segment: the fields before the first semicolon; past-segment: those after it, where there is one.
--- segment-in: the fields before the first semicolon as words, with those after it.
--- correction-first: the fields before the first semicolon as a correction, with those after it.
+-- first_segment: the fields before the first semicolon; past_segment: those after it, where there is one.
+-- segment_in: the fields before the first semicolon as words, with those after it.
+-- correction_first: the fields before the first semicolon as a correction, with those after it.
 -- Fails: a fault says that nothing can be read, or that there was no memory.
 -- Reads: what was read is this, or a fault.
 -- Assumes nothing.

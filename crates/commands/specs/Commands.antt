@@ -4,7 +4,7 @@
 -- view: what is to be shown of a journal.
 -- question: what is asked of a journal laid on the series beneath.
 -- command: each of these with the number of its journal; a fold; a place of a pile; a correction to write, and bytes to read one from.
--- by-command: a command of the code, its lists told by their elements: the one definition that goes with it.
+-- by_command: a command of the code, its lists told by their elements: the one definition that goes with it.
 -- Assumes nothing.
 use Rattle.std.specs.Prelude.{ℕ, Bool, List, [], map, vec_items}
 use Rattle.series.specs.declared.interval.Interval.{Interval}

@@ -1,8 +1,8 @@
 -- Numbers and bytes as they are written in a command.
 -- value: the number that decimal digits stand for.
--- number-to: a number of one or more decimal digits that is at most so large.
--- hex-digit: the value of a hex digit, of either case.
--- hex-bytes: bytes in pairs of hex digits; hex: the same, or none, which is written as a hyphen.
+-- number_to: a number of one or more decimal digits that is at most so large.
+-- hex_digit: the value of a hex digit, of either case.
+-- hex_bytes: bytes in pairs of hex digits; hex: the same, or none, which is written as a hyphen.
 -- Assumes nothing.
 use Rattle.std.specs.Prelude.{ℕ, ◌+◌, ◌-◌, ◌*◌, Bool, true, cond, ◌&&◌, List, [], ◌∷◌, Some, None, Option, ◌==◌, nat_le}
 use Rattle.std.specs.Option.{option_map}

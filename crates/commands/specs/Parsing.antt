@@ -1,10 +1,10 @@
 -- From a line to a command.
--- numbers-in: the numbers at the front of some fields, each at most its limit, and the fields after them.
--- words-in: all fields are words.
--- plain_command, words_command, bytes-command: what a command asks for, by its numbers and what follows them.
+-- numbers_in: the numbers at the front of some fields, each at most its limit, and the fields after them.
+-- words_in: all fields are words.
+-- plain_command, words_command, bytes_command: what a command asks for, by its numbers and what follows them.
 -- segments: what stands between semicolons.
--- draft-command: a journal, keep or drop, and corrections between semicolons.
--- command-in: the command that fields are, or why they are none.
+-- draft_command: a journal, keep or drop, and corrections between semicolons.
+-- command_in: the command that fields are, or why they are none.
 -- parsed: the command of a line, nothing where it has no fields, or why it is none.
 -- Parses: an answer is that; want of memory is answered only where there are fields.
 -- Assumes nothing.

@@ -2,7 +2,7 @@
 -- followed: an answer of an upper journal, told by the answers of what lies below.
 -- folded: the journal in the place of the lower and the upper, tidied.
 -- fold: that journal, or the number of the first check that refuses it.
--- fold-outcome: what a fold answers, and the third journal after it.
+-- fold_outcome: what a fold answers, and the third journal after it.
 -- Assumes nothing.
 use Rattle.std.specs.Prelude.{ℕ, cond, not, List, map, length, Ok, Err, Result, ◌==◌, nat_lt}
 use Rattle.std.specs.Result.{result_unwrap_or}

@@ -1,6 +1,6 @@
 -- What a journal stands for.
 -- state: the journal as the machine has it.
--- told-by: what is told of origins that name no words, by these words.
+-- told_by: what is told of origins that name no words, by these words.
 -- told: an origin, as a journal tells it.
 -- begun: what a start answers, and the state after it.
 -- limits: the refusal of a correction that makes too many places, or next too many words.

@@ -5,9 +5,9 @@
 -- bare: an origin without its word.
 -- joins: two neighbours could be one piece.
 -- gathered: the joined pieces that a list of origins makes.
--- none_empty, none-joins: no count is zero; no two neighbours could be one.
+-- none_empty, none_joins: no count is zero; no two neighbours could be one.
 -- total: the counts of the pieces in all.
--- of-source: the pieces of one source.
+-- of_source: the pieces of one source.
 -- rise: the pieces lie from a number up to another, and rise without overlap.
 -- within: each piece ends at a number or before it.
 -- Assumes nothing.

@@ -2,7 +2,7 @@
 -- run: so many base places from one on, or the words of an entered piece with their first number.
 -- run_of: the run of a piece, over the words in use.
 -- runs: the runs of a journal, piece by piece.
--- origins-of: the origins that a run stands for.
+-- origins_of: the origins that a run stands for.
 -- Assumes nothing.
 use Rattle.std.specs.Prelude.{ℕ, List, map, take, drop}
 use Rattle.series.specs.Lists.{up_from}

@@ -1,10 +1,10 @@
 -- What calls come to, told by numbers.
 -- outcome: of a correction, its answer; of a batch, its answer; of a draft, how many of its corrections were accepted; or that the journal
 -- was tidied.
--- by-outcome: an outcome of the code, its refusals told by numbers: the one definition that goes with it.
--- outcome-of: what a call comes to in a state.
+-- by_outcome: an outcome of the code, its refusals told by numbers: the one definition that goes with it.
+-- outcome_of: what a call comes to in a state.
 -- carried: that, and the state after it.
--- outcomes-of: what calls in turn come to.
+-- outcomes_of: what calls in turn come to.
 -- noted: outcomes written over the first of older ones, as many as there is room for.
 -- Assumes nothing.
 use Rattle.std.specs.Prelude.{ℕ, ◌+◌, cond, List, [], ◌∷◌, map, Option, Result}

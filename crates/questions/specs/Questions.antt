@@ -1,7 +1,7 @@
 -- What is answered of journals laid on a series, by the series' cells.
--- question-text: of one journal.
--- pile-text: of a place of one journal on another.
--- inquiry-text: of either.
+-- question_text: of one journal.
+-- pile_text: of a place of one journal on another.
+-- inquiry_text: of either.
 -- Assumes nothing.
 use Rattle.std.specs.Prelude.{ℕ, cond, List, [], ◌∷◌, ◌++◌, length, Ok, Err, codes, decimal, Result, ◌==◌}
 use Rattle.std.specs.Fmt.{signed_decimal}

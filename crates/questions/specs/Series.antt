@@ -1,7 +1,7 @@
 -- The series beneath the journals.
--- bottom-cells: the cells of a bottom; none where it would be refused.
--- checked-by: cells under a check, where there is one.
--- laid-down: what laying something beneath answers, and the bottom's cells and the check then.
+-- bottom_cells: the cells of a bottom; none where it would be refused.
+-- checked_by: cells under a check, where there is one.
+-- laid_down: what laying something beneath answers, and the bottom's cells and the check then.
 -- Assumes nothing.
 use Rattle.std.specs.Prelude.{ℕ, List, [], ◌++◌, map, length, replicate, Some, None, Ok, Err, vec_items, codes, decimal, Option, Result}
 use Rattle.std.specs.Result.{result_unwrap_or}

@@ -1,6 +1,6 @@
 -- What flattening a list of cells answers and writes.
 -- stop: why flattening stopped: by a refusal's number, or at a place, by the fault of its cell.
--- says: the stop that each flatten fault of the code stands for; by-stop: an answer told by it.
+-- says: the stop that each flatten fault of the code stands for; by_stop: an answer told by it.
 -- lead: the readings before the first fault.
 -- ending: how many cells there are; or the first fault, with its place.
 -- flattened: that, and the buffer after it; a buffer shorter than the list is refused with 10 and untouched.
