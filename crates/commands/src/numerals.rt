@@ -1,5 +1,5 @@
 // Numbers and bytes as they are written in a command.
-ghost use Rattle.std.specs.Prelude.{◌≡◌, ◌+◌, ◌-◌, ◌*◌, ◌<◌, ◌&&◌, leb, IfSome, IfOk, if◌then◌else◌, Some, None, vec_items, nat_le};
+ghost use Rattle.std.specs.Prelude.{◌≡◌, ◌+◌, ◌-◌, ◌*◌, ◌<◌, ◌&&◌, IfSome, IfOk, if◌then◌else◌, Some, None, vec_items, nat_le};
 ghost use Rattle.std.specs.Option.{option_map};
 ghost use Rattle.commands.specs.Numerals.{and_some, number_to, hex_digit, hex_bytes, hex};
 
@@ -8,7 +8,7 @@ use std::alloc::{AllocError, Global};
 // The value of digits whose last is `b` and whose others have the value `value`: none where `b` is no
 // digit, or the value is over `most`.
 fn one_more(value: u64, b: u8, most: u64) -> Option<u64>
-    ensures { result ≡ (if leb 48 b && nat_le b 57 then (if leb (10 * value + (b - 48)) most then Some (10 * value + (b - 48)) else None) else None) }
+    ensures { result ≡ (if nat_le 48 b && nat_le b 57 then (if nat_le (10 * value + (b - 48)) most then Some (10 * value + (b - 48)) else None) else None) }
 {
     if !b.is_ascii_digit() {
         return None;

@@ -1,8 +1,8 @@
 -- What a laid journal answers, whatever calls led to its state.
 -- led: the journal was started for the length of the base that it lies on, and the calls made on it led to this state.
 -- balanced: the length and all struck are together the base's length and all entered.
--- tells_item: what is told of a place is the item that stands there, and a base place is told only where it stands.
--- reads_item: what is read where a base place stands is the base's cell, and where an entry stands its word's reading.
+-- TellsItem: what is told of a place is the item that stands there, and a base place is told only where it stands.
+-- ReadsItem: what is read where a base place stands is the base's cell, and where an entry stands its word's reading.
 -- Assumes nothing.
 use Rattle.std.specs.Prelude.{◌≡◌, ℕ, ◌+◌, List, length, Ok, Result}
 use Rattle.series.specs.declared.cell.Cell.{Cell}
