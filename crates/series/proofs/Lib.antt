@@ -1,3 +1,2 @@
 pub mod Nths
-mod Faults
 mod Flats

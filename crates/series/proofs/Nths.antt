@@ -1,8 +1,7 @@
 -- What a list answers at a place, by its length and its parts.
-use Rattle.std.proofs.Common.{◌≡◌, ℕ, zero, suc, ◌+◌, ◌<◌, ◌≤◌, true, false, ltb, List, [], ◌∷◌, map, length, get_or, replicate, Ok, Err, sym, refl, ap, ◌∙◌, arith}
+use Rattle.std.proofs.Common.{◌≡◌, ℕ, zero, suc, ◌+◌, ◌<◌, ◌≤◌, List, [], ◌∷◌, map, length, get_or, replicate, Ok, Err, sym, refl, ap, ◌∙◌, arith}
 use lib.ListN.{length-replicate, length-map}
 use Rattle.std.proofs.lemmas.List.{get_or-replicate, get_or-map}
-use Rattle.series.specs.Bottoms.{bounded}
 use Rattle.series.specs.Lists.{nth, indexed}
 use Rattle.series.specs.Refusals.{with_ok}
 
@@ -15,12 +14,6 @@ pub nth-at : {A : Type 0} (xs : List A) (i : ℕ) (d : A) → i < length xs → 
 nth-at [] i d h = absurd (omega arith)
 nth-at (x ∷ xs) zero d h = refl
 nth-at (x ∷ xs) (suc i) d h = nth-at xs i d (omega arith)
-
-pub bounded-fits : {A : Type 0} (xs : List A) → length xs ≤ 1048576 → bounded xs ≡ Ok xs
-bounded-fits xs h = let t : ltb 1048576 (length xs) ≡ false = grind arith in rw t
-
-pub bounded_over : {A : Type 0} (xs : List A) → 1048576 < length xs → bounded xs ≡ Err 2
-bounded_over xs h = let t : ltb 1048576 (length xs) ≡ true = grind arith in rw t
 
 pub nth-replicate : {A : Type 0} (n i : ℕ) (x : A) → i < n → nth (replicate n x) i ≡ Ok x
 nth-replicate n i x h =

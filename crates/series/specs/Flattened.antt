@@ -19,7 +19,7 @@ pub data Stop : Type 0 where
 
 abbrev pub says : FlattenFault → Stop
 says TooShort = refused 10
-says (AtPlace place fault) = fault_at place fault
+says (AtPlace c) = fault_at c.place c.fault
 
 abbrev pub by_stop : {A : Type 0} → Result A FlattenFault → Result A Stop
 by_stop (Ok x) = Ok x
@@ -44,7 +44,3 @@ flattened cs out =
 abbrev pub of_cell : {T : Type 0} → ℕ → Cell T → Result T CellFault
 of_cell i (cell.Reading x) = Ok x
 of_cell i (cell.Fault f) = Err (record { place = i; fault = f })
-
--- the flatten fault of a cell's fault
-abbrev pub at_place : CellFault → FlattenFault
-at_place c = AtPlace c.place c.fault

@@ -2,6 +2,7 @@ pub mod Lists
 pub mod Numbers
 pub mod Refusals
 pub mod Faults
+pub mod Shown
 pub mod Words
 pub mod Bottoms
 pub mod Checked

@@ -1,5 +1,5 @@
 // What a base is: a list of at most 1,048,576 cells that one can only read.
-ghost use Rattle.std.specs.Prelude.{◌≡◌, ◌≤◌, List, length as count, nat_lt};
+ghost use Rattle.std.specs.Prelude.{◌≡◌, ◌≤◌, List, length as count};
 ghost use Rattle.series.specs.Lists.{nth};
 ghost use Rattle.series.specs.Refusals.{by_number};
 ghost use Rattle.series.specs.declared.cell.Cell.{Cell as CellOf};
@@ -7,6 +7,9 @@ ghost use Rattle.series.specs.declared.cell.Cell.{Cell as CellOf};
 use crate::cell::Cell;
 use crate::reading::Reading;
 use crate::refusal::Refusal;
+
+// A base has at most this many places.
+pub const MOST_PLACES: u32 = 1048576;
 
 pub trait Base {
     type Kind: Reading;
@@ -24,11 +27,4 @@ pub trait Base {
     // The cell at a place; refuses with NoSuchPlace exactly at or past the length.
     fn read(&self, place: u32) -> Result<Cell<Self::Kind>, Refusal>
         ensures { by_number result ≡ nth (cells self.now) place };
-}
-
-// Whether a base would have more places than it may.
-pub fn is_too_long(count: usize) -> bool
-    ensures { result ≡ nat_lt 1048576 count }
-{
-    count > 1048576
 }

@@ -5,6 +5,7 @@ ghost use Rattle.series.specs.Checked.{checked, check_on, check_cells, check-few
 use crate::base::Base;
 use crate::cell::Cell;
 use crate::fault::Fault;
+use crate::fault::causes::Cause;
 use crate::interval::Interval;
 use crate::refusal::Refusal;
 
@@ -27,14 +28,10 @@ fn check_cell(tag: u8, limit: u32, place: u32, cell: Cell<Interval>) -> Cell<Int
     ensures { result ≡ checked tag limit place cell }
 {
     match cell {
-        Cell::Reading(x) => {
-            if is_over(x.amount, limit) {
-                Cell::Fault(Fault::over_limit(tag, place))
-            } else {
-                Cell::Reading(x)
-            }
+        Cell::Reading(x) if is_over(x.amount, limit) => {
+            Cell::Fault(Fault::new(Cause::OverLimit, tag, place))
         }
-        Cell::Fault(f) => Cell::Fault(f),
+        _ => cell,
     }
 }
 

@@ -2,7 +2,8 @@
 ghost use Rattle.std.specs.Prelude.{◌≡◌, ◌<◌, length as count, Ok};
 ghost use Rattle.series.specs.Lists.{nth};
 ghost use Rattle.series.specs.Refusals.{with_ok};
-ghost use Rattle.series.specs.Flattened.{by_stop, flattened, of_cell, at_place};
+ghost use Rattle.series.specs.declared.flatten.FlattenFault.TheVariants.{AtPlace};
+ghost use Rattle.series.specs.Flattened.{by_stop, flattened, of_cell};
 
 use crate::base::Base;
 use crate::cell::Cell;
@@ -20,18 +21,15 @@ pub struct CellFault {
 pub enum FlattenFault {
     // The buffer is shorter than the series.
     TooShort,
-    // The cell at this place of the series has no reading.
-    AtPlace { place: u32, fault: Fault },
+    // This cell has no reading.
+    AtPlace(CellFault),
 }
 
 impl From<CellFault> for FlattenFault {
-    ghost from_gives = { λ c f. f ≡ at_place c };
+    ghost from_gives = { λ c f. f ≡ AtPlace c };
 
     fn from(c: CellFault) -> FlattenFault {
-        FlattenFault::AtPlace {
-            place: c.place,
-            fault: c.fault,
-        }
+        FlattenFault::AtPlace(c)
     }
 }
 
@@ -57,6 +55,7 @@ pub fn flatten<B: Base>(base: &B, out: &mut [B::Kind]) -> Result<u32, FlattenFau
     if out.len() < length as usize {
         return Err(FlattenFault::TooShort);
     }
+    // By number: the base is asked by it, and of a buffer that `zip` goes over nothing is known afterwards.
     for place in 0..length {
         out[place as usize] = reading_at(base, place)?;
     }

@@ -1,27 +1,30 @@
 // Why a call declined, and the number that stands for it.
-ghost use Rattle.std.specs.Prelude.{◌≡◌};
-ghost use Rattle.series.specs.Refusals.{number};
+ghost use Rattle.std.specs.Prelude.{◌≡◌, Some};
+ghost use Rattle.series.specs.Refusals.{number, refusal_text};
 
+use std::fmt;
+
+// Each refusal is the number that stands for it.
 #[derive(Clone, Copy, PartialEq, Eq, Debug)]
 pub enum Refusal {
     // There is no such place.
-    NoSuchPlace,
+    NoSuchPlace = 1,
     // More than 1,048,576 places.
-    TooLong,
+    TooLong = 2,
     // More than 1,024 words.
-    TooManyWords,
+    TooManyWords = 3,
     // More than 256 pieces.
-    TooManyPieces,
+    TooManyPieces = 4,
     // The upper journal was not started for the lower one's edited length.
-    NotForLower,
+    NotForLower = 5,
     // The bytes end too early.
-    BytesEnd,
+    BytesEnd = 6,
     // A bit of a map without meaning stands.
-    UnknownBit,
+    UnknownBit = 7,
     // A field that is present is zero.
-    ZeroField,
+    ZeroField = 8,
     // The buffer is too short.
-    BufferShort,
+    BufferShort = 10,
 }
 
 impl Refusal {
@@ -29,16 +32,14 @@ impl Refusal {
     pub fn number(self) -> u8
         ensures { result ≡ number self }
     {
-        match self {
-            Refusal::NoSuchPlace => 1,
-            Refusal::TooLong => 2,
-            Refusal::TooManyWords => 3,
-            Refusal::TooManyPieces => 4,
-            Refusal::NotForLower => 5,
-            Refusal::BytesEnd => 6,
-            Refusal::UnknownBit => 7,
-            Refusal::ZeroField => 8,
-            Refusal::BufferShort => 10,
-        }
+        self as u8
+    }
+}
+
+impl fmt::Display for Refusal {
+    ghost output = { λ r. Some (refusal_text (number r)) };
+
+    fn fmt<W: fmt::Write>(&self, f: &mut fmt::Formatter<W>) -> fmt::Result {
+        write!(f, "refused {}", self.number())
     }
 }

@@ -1,40 +1,38 @@
-// The causes of the layers of this repository.
-ghost use Rattle.std.specs.Prelude.{◌≡◌};
-ghost use Rattle.series.specs.Faults.{not_delivered, over_limit, past_base};
+// The causes of the layers of this repository, the faults that they make, and what a fault prints.
+ghost use Rattle.std.specs.Prelude.{◌≡◌, Some};
+ghost use Rattle.series.specs.Faults.{fault_text, of_cause};
 
 use super::Fault;
+use std::fmt;
+
+// Each cause is its number. Layers of one's own have other numbers, up to 255.
+#[derive(Clone, Copy, PartialEq, Eq, Debug)]
+pub enum Cause {
+    // No reading was delivered for this place of a profile.
+    NotDelivered = 11,
+    // The amount at this place is over the limit of a check.
+    OverLimit = 12,
+    // The journal names this base place, which lies past the end of the base.
+    PastBase = 13,
+}
 
 impl Fault {
-    // No reading was delivered for this place of a profile.
-    pub fn not_delivered(tag: u8, place: u32) -> Fault
-        ensures { result ≡ not_delivered tag place }
+    // The fault of this cause in the layer with this tag.
+    pub fn new(cause: Cause, tag: u8, place: u32) -> Fault
+        ensures { result ≡ of_cause cause tag place }
     {
         Fault {
-            cause: 11,
+            cause: cause as u8,
             tag,
             place,
         }
     }
+}
 
-    // The amount at this place is over the limit of a check.
-    pub fn over_limit(tag: u8, place: u32) -> Fault
-        ensures { result ≡ over_limit tag place }
-    {
-        Fault {
-            cause: 12,
-            tag,
-            place,
-        }
-    }
+impl fmt::Display for Fault {
+    ghost output = { λ x. Some (fault_text x) };
 
-    // The journal names this base place, which lies past the end of the base.
-    pub fn past_base(tag: u8, place: u32) -> Fault
-        ensures { result ≡ past_base tag place }
-    {
-        Fault {
-            cause: 13,
-            tag,
-            place,
-        }
+    fn fmt<W: fmt::Write>(&self, f: &mut fmt::Formatter<W>) -> fmt::Result {
+        write!(f, "fault {} {} {}", self.cause, self.tag, self.place)
     }
 }

@@ -5,7 +5,7 @@ ghost use Rattle.series.specs.Bottoms.{bounded, nominal_cells, nominal-few};
 ghost use Rattle.series.specs.declared.cell.Cell.TheVariants.{Reading as CellReading};
 
 use super::Nominal;
-use crate::base::{Base, is_too_long};
+use crate::base::{Base, MOST_PLACES};
 use crate::cell::Cell;
 use crate::reading::Reading;
 use crate::refusal::Refusal;
@@ -15,7 +15,7 @@ impl<T: Reading> Nominal<T> {
     pub fn new(reading: T, length: u32) -> Result<Nominal<T>, Refusal>
         ensures { by_number (with_ok nominal_cells result) ≡ bounded (replicate length (CellReading reading)) }
     {
-        if is_too_long(length as usize) {
+        if length > MOST_PLACES {
             return Err(Refusal::TooLong);
         }
         Ok(Nominal { reading, length })

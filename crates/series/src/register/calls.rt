@@ -1,11 +1,11 @@
-// Filling a register, and reading it.
-ghost use Rattle.std.specs.Prelude.{◌≡◌, true, [], map, is_err};
+// Making a register, and reading it.
+ghost use Rattle.std.specs.Prelude.{◌≡◌, [], map};
 ghost use Rattle.series.specs.Refusals.{by_number, with_ok};
 ghost use Rattle.series.specs.Bottoms.{bounded, register_cells, register-few};
 ghost use Rattle.series.specs.declared.cell.Cell.TheVariants.{Reading as CellReading};
 
 use super::Register;
-use crate::base::{Base, is_too_long};
+use crate::base::{Base, MOST_PLACES};
 use crate::cell::Cell;
 use crate::reading::Reading;
 use crate::refusal::Refusal;
@@ -18,16 +18,14 @@ impl<'a, T: Reading> Register<'a, T> {
         Register { readings: &[] }
     }
 
-    // Becomes the register of these readings. Refuses with TooLong; a refusal leaves the register as it was.
-    pub fn fill(&mut self, readings: &'a [T]) -> Result<(), Refusal>
-        ensures outcome { by_number (with_ok (λ _. register_cells self.new) result) ≡ bounded (map CellReading readings.now) }
-        ensures same { is_err result ≡ true → self.new ≡ self.old }
+    // The register of these readings; refuses with TooLong.
+    pub fn of(readings: &'a [T]) -> Result<Register<'a, T>, Refusal>
+        ensures { by_number (with_ok register_cells result) ≡ bounded (map CellReading readings.now) }
     {
-        if is_too_long(readings.len()) {
+        if readings.len() > MOST_PLACES as usize {
             return Err(Refusal::TooLong);
         }
-        *self = Register { readings };
-        Ok(())
+        Ok(Register { readings })
     }
 }
 

@@ -1,6 +1,0 @@
-use Rattle.std.proofs.Common.{refl}
-use Rattle.series.proofs.Faults.{same_fault}
-use Rattle.series.proofs.fault.Fault.not_delivered.Goals as goal
-
-pub returns : goal.returns
-returns c = same_fault _ _ refl refl refl
