@@ -1,4 +1,3 @@
 mod Aheads
 mod Sizes
-mod Opens
 mod Places
