@@ -1,7 +1,7 @@
 -- Parts of origins: of a stretch, of pieces in turn, and the three parts of a correction.
 use Rattle.std.proofs.Common.{◌≡◌, ℕ, zero, suc, ◌+◌, ◌-◌, ◌<◌, ◌≤◌, min, true, List, [], ◌∷◌, ◌++◌, length, get_or, take, drop, sym, refl, ap, ◌∙◌, subst, ⊎_elim, arith, length-append, length-drop, length-take}
 use lib.Seq.{drop-nil, take-nil}
-use Rattle.std.proofs.lemmas.List.{append_assoc, take_all}
+use Rattle.std.proofs.lemmas.List.{append_assoc}
 use Rattle.std.proofs.lemmas.Bool.{cases_lt, and_parts, leb-true}
 use Rattle.series.specs.Lists.{spliced}
 use Rattle.journal.specs.declared.piece.Piece.{Piece}
@@ -52,16 +52,20 @@ take-stretch s f (suc n) (suc b) =
     ap (λ (x : Os). origin s f ∷ x) (take-stretch s (suc f) n b)
     ∙ ap (stretch s f) (let e : suc (min b n) ≡ min (suc b) (suc n) = omega arith in e)
 
-drop-stretch : (s : Source) (f n a : ℕ) → drop a (stretch s f n) ≡ stretch s (f + a) (n - a)
-drop-stretch s f zero a = drop-nil a ∙ ap (stretch s (f + a)) (let e : 0 ≡ 0 - a = omega arith in e)
-drop-stretch s f (suc n) zero = ap (λ (i : ℕ). stretch s i (suc n)) (let e : f ≡ f + 0 = omega arith in e) ∙ ap (stretch s (f + 0)) (let e : suc n ≡ suc n - 0 = omega arith in e)
+drop-stretch : (s : Source) (f n a : ℕ) → drop a (stretch s f n) ≡ stretch s (f + min a n) (n - min a n)
+drop-stretch s f zero a = drop-nil a ∙ ap (stretch s (f + min a 0)) (let e : 0 ≡ 0 - min a 0 = omega arith in e)
+drop-stretch s f (suc n) zero =
+    ap (λ (i : ℕ). stretch s i (suc n)) (let e : f ≡ f + min 0 (suc n) = omega arith in e)
+    ∙ ap (stretch s (f + min 0 (suc n))) (let e : suc n ≡ suc n - min 0 (suc n) = omega arith in e)
 drop-stretch s f (suc n) (suc a) =
     drop-stretch s (suc f) n a
-    ∙ ap (λ (i : ℕ). stretch s i (n - a)) (let e : suc f + a ≡ f + suc a = omega arith in e)
-    ∙ ap (stretch s (f + suc a)) (let e : n - a ≡ suc n - suc a = omega arith in e)
+    ∙ ap (λ (i : ℕ). stretch s i (n - min a n)) (let e : suc f + min a n ≡ f + min (suc a) (suc n) = omega arith in e)
+    ∙ ap (stretch s (f + min (suc a) (suc n))) (let e : n - min a n ≡ suc n - min (suc a) (suc n) = omega arith in e)
 
-pub part-stretch : (s : Source) (f n a b : ℕ) → part a b (stretch s f n) ≡ stretch s (f + a) (min b n - a)
-part-stretch s f n a b = ap (drop a) (take-stretch s f n b) ∙ drop-stretch s f (min b n) a
+-- up to `to`, from `from` on
+pub part-stretch : (s : Source) (f n a b : ℕ)
+    → (let to : ℕ = min b n in let from : ℕ = min a to in stretch s (f + from) (to - from) ≡ part a b (stretch s f n))
+part-stretch s f n a b = sym (ap (drop a) (take-stretch s f n b) ∙ drop-stretch s f (min b n) a)
 
 pub length_part : (a b : ℕ) (os : Os) → length (part a b os) ≤ b - a
 length_part a b os = omega (arith, length-drop a (take b os), length-take b os)
@@ -133,18 +137,10 @@ module _ (os all o₀ : Os) (is : all ≡ os) (none : o₀ ≡ []) (p s n f : �
     pub pieces_second : 256 < pieces (o₁ ++ stretch Entered f n) → 256 < pieces (spliced p s (stretch Entered f n) os)
     pieces_second h = omega (arith, ap pieces edit_second, pieces-front (o₁ ++ stretch Entered f n) (drop (p + s) os))
 
-    module _ (o₂ : Os) (second : o₂ ≡ o₁ ++ stretch Entered f n) (len : ℕ) (whole : len ≡ length os) where
-      pub edit_third : o₂ ++ part (p + s) len all ≡ spliced p s (stretch Entered f n) os
-      edit_third =
-          ap (λ (x : Os). o₂ ++ part (p + s) len x) is
-          ∙ ap (λ (x : Os). o₂ ++ drop (p + s) x) (take_all len os (omega (arith, whole)))
-          ∙ ap (λ (x : Os). x ++ drop (p + s) os) second
-          ∙ edit_second
-
-      pub length_second : p + s ≤ length os → length o₂ ≡ p + n
-      length_second h =
-          let min-p : min p (length os) ≡ p = omega arith in
-          ap length (second ∙ ap (λ (x : Os). x ++ stretch Entered f n) (first ∙ edit_first))
-          ∙ length-append (take p os) (stretch Entered f n)
-          ∙ ap (λ (i : ℕ). i + length (stretch Entered f n)) (length-take p os ∙ min-p)
-          ∙ ap (λ (i : ℕ). p + i) (length-stretch Entered f n)
+    pub length_second : (o₂ : Os) → o₂ ≡ o₁ ++ stretch Entered f n → p ≤ length os → length o₂ ≡ p + n
+    length_second o₂ second h =
+        let min-p : min p (length os) ≡ p = omega arith in
+        ap length (second ∙ ap (λ (x : Os). x ++ stretch Entered f n) (first ∙ edit_first))
+        ∙ length-append (take p os) (stretch Entered f n)
+        ∙ ap (λ (i : ℕ). i + length (stretch Entered f n)) (length-take p os ∙ min-p)
+        ∙ ap (λ (i : ℕ). p + i) (length-stretch Entered f n)

@@ -3,35 +3,31 @@ use Rattle.std.proofs.Common.{◌≡◌, ℕ, zero, suc, ◌+◌, ◌<◌, ◌�
 use Rattle.std.proofs.lemmas.List.{append_assoc, map-append, take-map, drop-map, get_or_at, get_or_append_left, length_push}
 use Rattle.series.specs.Lists.{nth, spliced, up_from}
 use Rattle.journal.specs.declared.piece.Source.TheVariants.{Kept, Entered}
-use Rattle.journal.specs.Machine.{Origin, base, entered, numbered, follows, pieces, pieces_after}
-use Rattle.journal.specs.Pieces.{stretch, before, gathered}
+use Rattle.journal.specs.Machine.{Origin, base, entered, numbered, pieces}
+use Rattle.journal.specs.Pieces.{stretch, bare, before, gathered}
 use Rattle.journal.specs.Journals.{filled}
 use Rattle.journal.proofs.Places.{Well}
+use Rattle.journal.proofs.Gathered.{pieces-bare}
 
 abbrev O : Type 0
 O = Origin (Unit {0})
 
-follows-filled : (ws : List ℕ) (o p : O) → follows (filled ws o) (filled ws p) ≡ follows o p
-follows-filled ws (base m) (base n) = refl
-follows-filled ws (base m) (entered j w) = refl
-follows-filled ws (entered i v) (base n) = refl
-follows-filled ws (entered i v) (entered j w) = refl
-
-after_filled : (ws : List ℕ) (o : O) (os : List O) → pieces_after (filled ws o) (map (filled ws) os) ≡ pieces_after o os
-after_filled ws o [] = refl
-after_filled ws o (p ∷ os) = rw (follows-filled ws o p, after_filled ws p os)
+-- what is left without the words again
+bare-filled : (ws : List ℕ) (os : List O) → map bare (map (filled ws) os) ≡ os
+bare-filled ws [] = refl
+bare-filled ws (base m ∷ os) = ap (λ (ps : List O). base m ∷ ps) (bare-filled ws os)
+bare-filled ws (entered k w ∷ os) = ap (λ (ps : List O). entered k tt ∷ ps) (bare-filled ws os)
 
 pub pieces-filled : (ws : List ℕ) (os : List O) → pieces (map (filled ws) os) ≡ pieces os
-pieces-filled ws [] = refl
-pieces-filled ws (o ∷ os) = after_filled ws o os
+pieces-filled ws os = sym (pieces-bare (map (filled ws) os)) ∙ ap pieces (bare-filled ws os)
 
 pub gathered-filled : (ws : List ℕ) (os : List O) → gathered (map (filled ws) os) ≡ gathered os
 gathered-filled ws [] = refl
 gathered-filled ws (base m ∷ os) = ap (before Kept m) (gathered-filled ws os)
 gathered-filled ws (entered k w ∷ os) = ap (before Entered k) (gathered-filled ws os)
 
-spliced-map : {A B : Type 0} (f : A → B) (p s : ℕ) (new old : List A) → map f (spliced p s new old) ≡ spliced p s (map f new) (map f old)
-spliced-map f p s new old =
+pub map-spliced : {A B : Type 0} (f : A → B) (p s : ℕ) (new old : List A) → map f (spliced p s new old) ≡ spliced p s (map f new) (map f old)
+map-spliced f p s new old =
     map-append f (take p old) (new ++ drop (p + s) old)
     ∙ ap (λ xs. map f (take p old) ++ xs) (map-append f new (drop (p + s) old))
     ∙ ap (λ xs. xs ++ (map f new ++ map f (drop (p + s) old))) (sym (take-map f p old))
@@ -71,7 +67,7 @@ filled-append ws more f b u (entered k t ∷ os) le w =
 pub filled-spliced : (ws more : List ℕ) (b p s : ℕ) (os : List O) → Well 0 b (length ws) os
     → map (filled (ws ++ more)) (spliced p s (stretch Entered (length ws) (length more)) os) ≡ spliced p s (numbered (length ws) more) (map (filled ws) os)
 filled-spliced ws more b p s os w =
-    spliced-map (filled (ws ++ more)) p s (stretch Entered (length ws) (length more)) os
+    map-spliced (filled (ws ++ more)) p s (stretch Entered (length ws) (length more)) os
     ∙ ap (λ (xs : List (Origin ℕ)). spliced p s xs (map (filled (ws ++ more)) os)) (filled-numbered ws more (ws ++ more) (length ws) refl refl)
     ∙ ap (spliced p s (numbered (length ws) more)) (filled-append ws more 0 b (length ws) os (omega arith) w)
 

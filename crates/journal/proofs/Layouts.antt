@@ -1,11 +1,11 @@
 -- Layouts: a piece more, and more answers.
-use Rattle.std.proofs.Common.{◌≡◌, ℕ, zero, suc, ◌+◌, ◌≤◌, Bool, true, false, cond, List, [], ◌∷◌, ◌++◌, map, length, take, drop, Ok, Err, sym, refl, ap, ◌∙◌, subst, ap₂, arith, length-append}
+use Rattle.std.proofs.Common.{◌≡◌, ℕ, zero, suc, ◌+◌, ◌≤◌, List, [], ◌∷◌, ◌++◌, map, length, take, drop, Ok, Err, Result, sym, refl, ap, ◌∙◌, subst, ap₂, arith, length-append}
 use lib.ListN.{length-map}
 use Rattle.std.proofs.lemmas.List.{append_assoc, append-nil, map-append, take-map, drop-map}
-use Rattle.std.proofs.lemmas.Bool.{false≢true}
-use Rattle.series.specs.declared.refusal.Refusal.TheVariants.{TooManyPieces}
+use Rattle.series.specs.declared.refusal.Refusal.{Refusal}
 use Rattle.journal.specs.declared.piece.Source.{Source}
 use Rattle.journal.specs.declared.piece.Source.TheVariants.{Kept, Entered}
+use Rattle.journal.specs.declared.table.Table.{Table}
 use Rattle.journal.specs.declared.words.WordStore.{WordStore}
 use Rattle.journal.specs.declared.journal.layout.Layout.{Layout}
 use Rattle.journal.specs.Machine.{Origin, base, entered, Answer, place, word, answer, numbered}
@@ -14,7 +14,7 @@ use Rattle.journal.specs.Tables.{Made}
 use Rattle.journal.specs.Stores.{in_use}
 use Rattle.journal.specs.Journals.{filled, told_by}
 use Rattle.journal.specs.Tidied.{words_in, renumbered}
-use Rattle.journal.specs.Layouts.{table_of, Lays}
+use Rattle.journal.specs.Layouts.{Lays}
 use Rattle.journal.proofs.Counts.{pieces-front}
 use Rattle.journal.proofs.Fills.{filled-entered}
 
@@ -25,13 +25,9 @@ abbrev As : Type 0
 As = List (Answer ℕ)
 
 -- a piece too many stays so
-module _ (l : Layout) (os : Os) where
-  pub made_crowded : (more : Os) → l.crowded ≡ true → Made (table_of l) os → Made (table_of l) (os ++ more)
-  made_crowded more = go l.crowded
-    where
-      go : (b : Bool) → b ≡ true → Made (cond b (Err TooManyPieces) (Ok l.table)) os → Made (cond b (Err TooManyPieces) (Ok l.table)) (os ++ more)
-      go true e m = (m.0, omega (arith, m.1, pieces-front os more))
-      go false e m = absurd (false≢true e)
+pub made_crowded : (r : Result Table Refusal) (e : Refusal) (os more : Os) → r ≡ Err e → Made r os → Made r (os ++ more)
+made_crowded (Ok t) e os more is m = let z : ◌≡◌ {A = ℕ} 0 1 = cc in absurd (omega arith)
+made_crowded (Err x) e os more is m = (m.0, omega (arith, m.1, pieces-front os more))
 
 -- the words among answers in turn, and their numbers
 words_append : (xs ys : As) → words_in (xs ++ ys) ≡ words_in xs ++ words_in ys
@@ -93,14 +89,14 @@ length-words xs ws =
 module _ (l m : Layout) (xs : As) (h : Lays l xs) where
   pub lays-words : (ws : List ℕ) (f n : ℕ) → f ≡ l.words.used → n ≡ length ws → in_use m.words ≡ in_use l.words ++ ws
       → m.words.used ≡ l.words.used + length ws → l.words.used + length ws ≤ 1024
-      → ((os : Os) → Made (table_of l) os → Made (table_of m) (os ++ stretch Entered f n)) → Lays m (xs ++ map word ws)
+      → ((os : Os) → Made l.table os → Made m.table (os ++ stretch Entered f n)) → Lays m (xs ++ map word ws)
   lays-words ws f n first long words used room table =
       record {
         words = words ∙ ap (λ (vs : List ℕ). vs ++ ws) h.words ∙ ap (λ (vs : List ℕ). words_in xs ++ vs) (sym (words-words ws)) ∙ sym (words_append xs (map word ws));
         used = used ∙ ap (λ (i : ℕ). i + length ws) h.used ∙ sym (length-words xs ws);
         room = omega (arith, used);
         table =
-            subst (Made (table_of m))
+            subst (Made m.table)
             (ap (λ (os : Os). map bare (renumbered 0 xs) ++ os)
             (ap₂ (stretch Entered) (first ∙ h.used) long ∙ sym (bare-words (length (words_in xs)) ws))
             ∙ sym (bare-append xs (map word ws)))
@@ -108,7 +104,7 @@ module _ (l m : Layout) (xs : As) (h : Lays l xs) where
       }
 
   pub lays-kept : (ws : List ℕ) (s : Source) (a n : ℕ) → s ≡ Kept → m.words ≡ l.words
-      → ((os : Os) → Made (table_of l) os → Made (table_of m) (os ++ stretch s a n)) → Lays m (xs ++ told_by ws (stretch s a n))
+      → ((os : Os) → Made l.table os → Made m.table (os ++ stretch s a n)) → Lays m (xs ++ told_by ws (stretch s a n))
   lays-kept ws s a n is same table =
       let more : As = told_by ws (stretch s a n) in
       let kept : stretch Kept a n ≡ stretch s a n = ap (λ (t : Source). stretch t a n) (sym is) in
@@ -119,7 +115,7 @@ module _ (l m : Layout) (xs : As) (h : Lays l xs) where
         used = ap (λ (t : WordStore). t.used) same ∙ h.used ∙ ap length (sym none);
         room = subst (λ (t : WordStore). t.used ≤ 1024) (sym same) h.room;
         table =
-            subst (Made (table_of m))
+            subst (Made m.table)
             (ap (λ (os : Os). map bare (renumbered 0 xs) ++ os)
             (sym kept ∙ sym (bare-kept ws (length (words_in xs)) a n) ∙ ap (λ (os : Os). map bare (renumbered (length (words_in xs)) (told_by ws os))) kept)
             ∙ sym (bare-append xs more))

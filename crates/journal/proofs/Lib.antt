@@ -5,7 +5,7 @@ mod Pushes
 mod Cuts
 mod Finds
 pub mod Places
-mod Fills
+pub mod Fills
 mod Outcomes
 mod Journals
 mod Corrections
@@ -19,3 +19,4 @@ mod Layouts
 mod Finished
 mod Walks
 mod Folds
+pub mod Drafts

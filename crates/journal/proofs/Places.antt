@@ -189,7 +189,7 @@ length-spliced p s n u os h =
     )
 
 -- what is true of every journal, of its pieces
-pub record Sound (b u : ℕ) (ps : List Piece) : Type 0 where
+pub record SoundPieces (b u : ℕ) (ps : List Piece) : Type 0 where
   pub counts : none_empty ps ≡ true
   pub joined : none_joins ps ≡ true
   pub short : total ps ≤ 1048576
@@ -198,9 +198,9 @@ pub record Sound (b u : ℕ) (ps : List Piece) : Type 0 where
   pub counted : total (of_source Entered ps) ≤ u
 
 -- and of the pieces after a correction
-module _ (ps qs : List Piece) (b u p s n : ℕ) (h : Sound b u ps) (counts : none_empty qs ≡ true) (joined : none_joins qs ≡ true)
+module _ (ps qs : List Piece) (b u p s n : ℕ) (h : SoundPieces b u ps) (counts : none_empty qs ≡ true) (joined : none_joins qs ≡ true)
     (e : spread qs ≡ spliced p s (stretch Entered u n) (spread ps)) where
-  pub sound-after : p + s ≤ length (spread ps) → length (spread ps) - s + n ≤ 1048576 → Sound b (u + n) qs
+  pub sound-after : p + s ≤ length (spread ps) → length (spread ps) - s + n ≤ 1048576 → SoundPieces b (u + n) qs
   sound-after inside short =
       let placed = well_placed 0 b (u + n) qs (joined_fact qs counts joined)
       (subst (λ (os : Os). Well 0 b (u + n) os) (sym e) (well_spliced p (p + s) n 0 b u (spread ps) (omega arith) (placed_well 0 b u ps (h.kept, h.inside)))) in
@@ -214,7 +214,7 @@ module _ (ps qs : List Piece) (b u p s n : ℕ) (h : Sound b u ps) (counts : non
       }
 
 -- and of the pieces for the base places below b
-pub sound-start : (ps : List Piece) (b : ℕ) → b ≤ 1048576 → none_empty ps ≡ true → none_joins ps ≡ true → spread ps ≡ stretch Kept 0 b → Sound b 0 ps
+pub sound-start : (ps : List Piece) (b : ℕ) → b ≤ 1048576 → none_empty ps ≡ true → none_joins ps ≡ true → spread ps ≡ stretch Kept 0 b → SoundPieces b 0 ps
 sound-start ps b few counts joined e =
     let placed = well_placed 0 b 0 ps (joined_fact ps counts joined)
     (subst (λ (os : Os). Well 0 b 0 os) (append-nil (stretch Kept 0 b) ∙ sym e) (well_stretch Kept 0 b 0 b 0 [] (omega arith, omega arith) tt)) in

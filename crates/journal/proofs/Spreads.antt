@@ -1,6 +1,8 @@
 -- The origins that pieces stand for: of pieces in turn, of one piece more, of a longer last piece.
 use Rattle.std.proofs.Common.{◌≡◌, ℕ, zero, suc, ◌+◌, ◌<◌, ◌≤◌, List, [], ◌∷◌, ◌++◌, length, get_or, take, drop, sym, refl, ap, ◌∙◌, add-zero, add-suc, suc-add, zero-add, arith, length-append, take-append-drop}
+use Rattle.std.specs.List.{sum_by}
 use Rattle.std.proofs.lemmas.List.{append-nil, append_assoc, take_more}
+use Rattle.std.proofs.lemmas.List.Sums.{sum_by-cons}
 use Rattle.journal.specs.declared.piece.Piece.{Piece}
 use Rattle.journal.specs.declared.piece.Source.{Source}
 use Rattle.journal.specs.Machine.{Origin}
@@ -49,3 +51,15 @@ spread_split xs k = ap spread (sym (take-append-drop k xs)) ∙ spread-append (t
 
 pub spread_fewer : (xs : List Piece) (k : ℕ) → length (spread (take k xs)) ≤ length (spread xs)
 spread_fewer xs k = omega (arith, ap length (spread_split xs k), length-append (spread (take k xs)) (spread (drop k xs)))
+
+-- as many origins as the counts add to
+pub length_spread_sum : (ps : List Piece) → length (spread ps) ≡ sum_by (λ (p : Piece). p.count) ps
+length_spread_sum [] = refl
+length_spread_sum (p ∷ ps) =
+    omega (
+      arith,
+      length-append (stretch p.source p.first p.count) (spread ps),
+      length-stretch p.source p.first p.count,
+      length_spread_sum ps,
+      sum_by-cons (λ (q : Piece). q.count) p ps,
+    )

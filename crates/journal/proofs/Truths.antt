@@ -15,7 +15,7 @@ use Rattle.journal.specs.Stores.{in_use}
 use Rattle.journal.specs.Journals.{filled, state}
 use Rattle.journal.proofs.Joins.{Joined, joined_fact, empty_test, joins_test}
 use Rattle.journal.proofs.Counts.{pieces-spread, gathered-spread}
-use Rattle.journal.proofs.Places.{Sound, Well, placed_well, well_placed, word_count, words_spread}
+use Rattle.journal.proofs.Places.{SoundPieces, Well, placed_well, well_placed, word_count, words_spread}
 use Rattle.journal.proofs.Fills.{pieces-filled, gathered-filled, well_nth}
 use Rattle.journal.proofs.Journals.{truths, well}
 use Rattle.journal.proofs.Nths.{none, nth-some, nth-value, nth_unmap}
@@ -80,11 +80,11 @@ module _ {W : Type 0} where
       let h = named-renumbered xs (suc k) q j w e in (suc h.0, omega (arith, h.1), h.2)
 
   -- the invariant's facts of the table
-  pub sound_lawful : (st : State W) → Lawful st → Sound st.started (length st.words) (gathered st.origins)
+  pub sound_lawful : (st : State W) → Lawful st → SoundPieces st.started (length st.words) (gathered st.origins)
   sound_lawful st h =
       record { counts = h.counts; joined = h.joined; short = omega (arith, h.long, h.short); kept = h.kept; inside = h.inside; counted = h.counted }
 
-  pub lawful : (st : State W) → Sound st.started (length st.words) (gathered st.origins) → pieces st.origins ≤ 256 →
+  pub lawful : (st : State W) → SoundPieces st.started (length st.words) (gathered st.origins) → pieces st.origins ≤ 256 →
       length st.words ≤ 1024 → st.started ≤ 1048576 →
       ((q k : ℕ) (w : W) → nth st.origins q ≡ Ok (entered k w) → nth st.words k ≡ Ok w) → Lawful st
   lawful st t few room based named =
@@ -202,7 +202,7 @@ module _ (j : Journal) where
       let table = listed j.table in
       let many = length-take j.table.used j.table.pieces in
       lawful (state j)
-      (subst⁻¹ (Sound j.started (length (in_use j.words))) gathered-state
-      (subst (λ (u : ℕ). Sound j.started u (listed j.table)) (sym j.stored) (truths j)))
+      (subst⁻¹ (SoundPieces j.started (length (in_use j.words))) gathered-state
+      (subst (λ (u : ℕ). SoundPieces j.started u (listed j.table)) (sym j.stored) (truths j)))
       (omega (arith, pieces-filled ws (origins j.table), pieces-spread table joined-listed, j.few))
       (omega (arith, j.room)) j.based named-state

@@ -3,9 +3,8 @@
 -- told_by: what is told of origins that name no words, by these words.
 -- told: an origin, as a journal tells it.
 -- begun: what a start answers, and the state after it.
--- limits: the refusal of a correction that makes too many places, or next too many words.
 -- Assumes nothing.
-use Rattle.std.specs.Prelude.{ℕ, ◌+◌, ◌≤◌, cond, List, map, length, Ok, Err, Result, nat_lt, slice_index}
+use Rattle.std.specs.Prelude.{ℕ, ◌≤◌, cond, List, map, length, Ok, Err, Result, nat_lt, slice_index}
 use Rattle.std.proofs.Common.{arith}
 use Rattle.std.proofs.lemmas.List.{length-map}
 use Rattle.journal.specs.declared.origin.Origin.{Origin as Written}
@@ -39,10 +38,6 @@ told (written.Entered w) = word w
 -- refusal 2 and the state as it was where the length is more than a series may have
 abbrev pub begun : State ℕ → ℕ → Result (Unit {0}) ℕ × State ℕ
 begun st n = cond (nat_lt 1048576 n) (Err 2, st) (Ok tt, start n)
-
--- places are left and words in use, and as many more of both come
-abbrev pub limits : ℕ → ℕ → ℕ → Result (Unit {0}) ℕ
-limits rest used more = cond (nat_lt 1048576 (rest + more)) (Err 2) (cond (nat_lt 1024 (used + more)) (Err 3) (Ok tt))
 
 pub state-few : (j : Journal) → length (answers (state j)) ≤ 1048576
 state-few j = simp length-map (omega (arith, length-spread (listed j.table), j.short))

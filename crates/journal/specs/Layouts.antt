@@ -1,5 +1,4 @@
 -- What a layout holds, and what its calls promise one another.
--- table_of: the table of a layout, or the refusal of a piece too many.
 -- Lays: the layout of these answers, as far as its table takes them.
 -- Takes: a layout of some answers, which so many more do not make too long.
 -- Extended: a call that lays out more answers, and is refused only where they have too many words.
@@ -7,10 +6,9 @@
 -- Completes: a layout of these answers, which make a journal started for so many places unless they are too many pieces.
 -- Completed: a call that makes this journal, and is refused only where it has too many pieces.
 -- Assumes nothing.
-use Rattle.std.specs.Prelude.{◌≡◌, ℕ, ◌+◌, ◌<◌, ◌≤◌, cond, List, ◌++◌, map, length, Ok, Err, Result}
+use Rattle.std.specs.Prelude.{◌≡◌, ℕ, ◌+◌, ◌<◌, ◌≤◌, List, ◌++◌, map, length, Ok, Err, Result}
 use Rattle.series.specs.declared.refusal.Refusal.{Refusal}
 use Rattle.series.specs.declared.refusal.Refusal.TheVariants.{TooManyWords, TooManyPieces}
-use Rattle.journal.specs.declared.table.Table.{Table}
 use Rattle.journal.specs.declared.journal.layout.Layout.{Layout}
 use Rattle.journal.specs.declared.journal.Journal.{Journal}
 use Rattle.journal.specs.Machine.{Answer, State, pieces}
@@ -21,14 +19,11 @@ use Rattle.journal.specs.Journals.{state}
 use Rattle.journal.specs.Tidied.{words_in, renumbered, neat}
 use Rattle.journal.specs.Lawful.{Lawful}
 
-abbrev pub table_of : Layout → Result Table Refusal
-table_of l = cond l.crowded (Err TooManyPieces) (Ok l.table)
-
 pub record Lays (l : Layout) (xs : List (Answer ℕ)) : Type 0 where
   pub words : in_use l.words ≡ words_in xs
   pub used : l.words.used ≡ length (words_in xs)
   pub room : l.words.used ≤ 1024
-  pub table : Made (table_of l) (map bare (renumbered 0 xs))
+  pub table : Made l.table (map bare (renumbered 0 xs))
 
 abbrev pub Takes : Layout → ℕ → Type 0
 Takes l n = (xs : List (Answer ℕ)) × Lays l xs × (length xs + n ≤ 1048576)

@@ -4,6 +4,8 @@ pub mod Pieces
 pub mod Tables
 pub mod Stores
 pub mod Journals
+pub mod Drafts
+pub mod Texts
 pub mod Tidied
 pub mod Tidiness
 pub mod Folded

@@ -4,20 +4,19 @@
 -- next_of: the first of a list and the others, or nothing and nothing left.
 -- walk_steps: what a step of a walk answers, and the runs to come after it.
 -- Assumes nothing.
-use Rattle.std.specs.Prelude.{◌≡◌, List, [], ◌∷◌, drop, Some, None, Option}
+use Rattle.std.specs.Prelude.{◌≡◌, List, [], ◌∷◌, map, Some, None, Option}
 use Rattle.std.specs.Option.{option_map}
 use Rattle.journal.specs.declared.walk.Run.{Run as Handed}
 use Rattle.journal.specs.declared.walk.Run.TheVariants.{Kept, Entered}
 use Rattle.journal.specs.declared.walk.Walk.{Walk}
-use Rattle.journal.specs.Journals.{state}
-use Rattle.journal.specs.Runs.{Run, kept_run, entered_run, runs}
+use Rattle.journal.specs.Runs.{Run, kept_run, entered_run, run_of}
 
 abbrev pub said : Handed → Run
 said (Kept place count) = kept_run place count
 said (Entered first words) = entered_run first words.now
 
 abbrev pub coming : Walk → List Run
-coming w = drop w.next (runs (state w.journal.now))
+coming w = map (run_of w.words.now) w.pieces.rest.now
 
 abbrev pub next_of : {A : Type 0} → List A → Option A × List A
 next_of [] = (None, [])

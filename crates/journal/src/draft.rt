@@ -3,6 +3,7 @@ ghost use Rattle.std.specs.Prelude.{◌≡◌, []};
 ghost use Rattle.series.specs.Refusals.{by_number};
 ghost use Rattle.journal.specs.Machine.{outcome, correction};
 ghost use Rattle.journal.specs.Journals.{state};
+ghost use Rattle.journal.specs.Drafts.{Continues};
 
 use crate::journal::Journal;
 use series::refusal::Refusal;
@@ -36,8 +37,7 @@ impl<'a> Draft<'a> {
     // Enters `words` at `place`, as in the journal itself.
     pub fn enter(&mut self, place: u32, words: &[u64]) -> Result<u32, Refusal>
         ensures outcome { (by_number result, state self.new.journal.now) ≡ outcome (state self.old.journal.now) (correction place 0 words.now) }
-        ensures before { self.new.before ≡ self.old.before }
-        ensures follows { self.new.journal.ghost_name ≡ self.old.journal.ghost_name }
+        ensures continues { Continues self.old self.new }
     {
         self.journal.enter(place, words)
     }
@@ -45,8 +45,7 @@ impl<'a> Draft<'a> {
     // Strikes `struck` places from `place` on, as in the journal itself.
     pub fn strike(&mut self, place: u32, struck: u32) -> Result<u32, Refusal>
         ensures outcome { (by_number result, state self.new.journal.now) ≡ outcome (state self.old.journal.now) (correction place struck []) }
-        ensures before { self.new.before ≡ self.old.before }
-        ensures follows { self.new.journal.ghost_name ≡ self.old.journal.ghost_name }
+        ensures continues { Continues self.old self.new }
     {
         self.journal.strike(place, struck)
     }
@@ -54,8 +53,7 @@ impl<'a> Draft<'a> {
     // Strikes `struck` places from `place` on and enters `words` there, as in the journal itself.
     pub fn replace(&mut self, place: u32, struck: u32, words: &[u64]) -> Result<u32, Refusal>
         ensures outcome { (by_number result, state self.new.journal.now) ≡ outcome (state self.old.journal.now) (correction place struck words.now) }
-        ensures before { self.new.before ≡ self.old.before }
-        ensures follows { self.new.journal.ghost_name ≡ self.old.journal.ghost_name }
+        ensures continues { Continues self.old self.new }
     {
         self.journal.replace(place, struck, words)
     }

@@ -14,8 +14,10 @@ pub mod corrections;
 pub(crate) mod layout;
 pub mod tidy;
 
-// A series has at most this many places.
-pub const MOST_PLACES: u32 = 1048576;
+pub use series::base::MOST_PLACES;
+
+// A journal takes at most this many words.
+pub const MOST_WORDS: usize = 1024;
 
 #[derive(Clone, Copy)]
 pub struct Journal {

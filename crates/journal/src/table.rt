@@ -4,7 +4,7 @@ ghost use Rattle.series.specs.Lists.{nth, spliced};
 ghost use Rattle.series.specs.Refusals.{by_number, with_ok};
 ghost use Rattle.journal.specs.declared.piece.Source.TheVariants.{Kept, Entered as EnteredSource};
 ghost use Rattle.journal.specs.Pieces.{spread, stretch, part, within};
-ghost use Rattle.journal.specs.Tables.{listed, origins, found, Tidy, Appended, Made};
+ghost use Rattle.journal.specs.Tables.{listed, origins, found, Whole, Tidy, Appended, Made};
 
 use crate::piece::{Piece, Source};
 use series::refusal::Refusal;
@@ -12,6 +12,7 @@ use series::refusal::Refusal;
 // A table takes at most this many pieces.
 pub(crate) const MOST_PIECES: usize = 256;
 
+// An array beside the number of those in use, since a journal takes no memory but its own.
 #[derive(Clone, Copy)]
 pub(crate) struct Table {
     pieces: [Piece; MOST_PIECES],
@@ -24,32 +25,23 @@ impl Table {
         ensures tidy { Tidy result }
         ensures none { listed result ≡ [] }
     {
-        let none = Piece {
-            source: Source::Kept,
-            first: 0,
-            count: 0,
-        };
-        Table {
-            pieces: [none; MOST_PIECES],
-            used: 0,
-        }
+        Table::kept(0)
     }
 
-    // A table for the base places below `length`.
+    // A table for the base places below `length`: one piece, or none for no places.
     pub(crate) fn kept(length: u32) -> Table
         ensures tidy { Tidy result }
         ensures places { origins result ≡ stretch Kept 0 length }
     {
-        let mut table = Table::empty();
-        if length > 0 {
-            table.pieces[0] = Piece {
-                source: Source::Kept,
-                first: 0,
-                count: length,
-            };
-            table.used = 1;
+        let all = Piece {
+            source: Source::Kept,
+            first: 0,
+            count: length,
+        };
+        Table {
+            pieces: [all; MOST_PIECES],
+            used: usize::from(length > 0),
         }
-        table
     }
 
     // The pieces in use.
@@ -57,29 +49,25 @@ impl Table {
         requires { self.now.used ≤ 256 }
         ensures { result.now ≡ listed self.now }
     {
-        &self.pieces[0..self.used]
+        &self.pieces[..self.used]
     }
 
     // The number of places that the table stands for.
+    #[tactic(auto, using(crate::proofs::Spreads::length_spread_sum))]
     pub(crate) fn length(&self) -> u32
-        requires used { self.now.used ≤ 256 }
-        requires short { count_of (origins self.now) ≤ 1048576 }
+        requires { Whole self.now }
         ensures { result ≡ count_of (origins self.now) }
     {
-        let mut total = 0;
-        let pieces = self.as_slice();
-        for piece in pieces {
-            total += piece.count;
-        }
-        total
+        self.as_slice().iter().map(|piece| piece.count).sum()
     }
 
     // Where a place comes from: its source, with its base place or the number of its word.
     pub(crate) fn find(&self, place: u32) -> Result<(Source, u32), Refusal>
-        requires used { self.now.used ≤ 256 }
-        requires ends { within 1048576 (listed self.now) ≡ true }
+        requires { Whole self.now }
         ensures { by_number (with_ok found result) ≡ nth (origins self.now) place }
     {
+        // The place runs along here, in `push_range` and in `Layout::take`: an iterator that hands out pieces with
+        // their places would be longer than the three loops.
         let mut left = place;
         let pieces = self.as_slice();
         for piece in pieces {
@@ -139,9 +127,7 @@ impl Table {
         first: u32,
         entered: u32,
     ) -> Result<Table, Refusal>
-        requires used { self.now.used ≤ 256 }
-        requires ends { within 1048576 (listed self.now) ≡ true }
-        requires whole { count_of (origins self.now) ≤ 1048576 }
+        requires whole { Whole self.now }
         requires inside { place + struck ≤ count_of (origins self.now) }
         requires short { count_of (origins self.now) - struck + entered ≤ 1048576 }
         ensures { Made result (spliced place struck (stretch EnteredSource first entered) (origins self.now)) }

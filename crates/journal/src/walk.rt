@@ -1,5 +1,10 @@
 // A walk over a journal, and the runs that it hands out.
-use crate::journal::Journal;
+ghost use Rattle.std.specs.Prelude.{◌≡◌, true, length as count_of};
+ghost use Rattle.journal.specs.declared.piece.Source.TheVariants.{Entered as EnteredSource};
+ghost use Rattle.journal.specs.Pieces.{of_source, within};
+
+use crate::piece::Piece;
+use std::slice;
 
 pub mod steps;
 
@@ -10,9 +15,12 @@ pub enum Run<'a> {
     Entered { first: u32, words: &'a [u64] },
 }
 
-// A walk hands out one run for each piece of a journal.
+// A walk hands out one run for each piece of a journal: it holds the pieces still to come, and all
+// the journal's words.
 #[derive(Drop)]
 pub struct Walk<'a> {
-    journal: &'a Journal,
-    next: usize,
+    pieces: slice::Iter<'a, Piece>,
+    words: &'a [u64],
+    // Entered pieces lie inside the words.
+    ghost inside: { within (count_of words.now) (of_source EnteredSource pieces.rest.now) ≡ true },
 }

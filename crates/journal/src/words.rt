@@ -1,10 +1,10 @@
 // The words that corrections entered, one after another in the order of the corrections.
-ghost use Rattle.std.specs.Prelude.{◌≡◌, ◌+◌, ◌<◌, ◌≤◌, [], ◌++◌, length as count_of, slice_index};
+ghost use Rattle.std.specs.Prelude.{◌≡◌, ◌+◌, ◌-◌, ◌<◌, ◌≤◌, [], ◌++◌, length as count_of, slice_index};
 ghost use Rattle.journal.specs.Stores.{in_use};
 
-// A journal takes at most this many words.
-pub(crate) const MOST_WORDS: usize = 1024;
+use crate::journal::MOST_WORDS;
 
+// An array beside the number of those in use, since a journal takes no memory but its own.
 #[derive(Clone, Copy)]
 pub(crate) struct WordStore {
     words: [u64; MOST_WORDS],
@@ -29,7 +29,7 @@ impl WordStore {
         ensures words { result.now ≡ in_use self.now }
         ensures used { count_of result.now ≡ self.now.used }
     {
-        &self.words[0..self.used]
+        &self.words[..self.used]
     }
 
     // How many words are in use.
@@ -39,6 +39,14 @@ impl WordStore {
         ensures used { result ≡ self.now.used }
     {
         self.as_slice().len()
+    }
+
+    // How many more words there is room for.
+    pub(crate) fn room(&self) -> usize
+        requires { self.now.used ≤ 1024 }
+        ensures { result ≡ 1024 - self.now.used }
+    {
+        MOST_WORDS - self.used
     }
 
     // The word with a number.

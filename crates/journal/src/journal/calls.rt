@@ -1,5 +1,5 @@
 // Starting a journal, and what it tells.
-ghost use Rattle.std.specs.Prelude.{◌≡◌, true, length as count_of, is_err};
+ghost use Rattle.std.specs.Prelude.{◌≡◌, ◌≤◌, true, length as count_of, is_err};
 ghost use Rattle.series.specs.Lists.{nth};
 ghost use Rattle.series.specs.Refusals.{by_number, with_ok};
 ghost use Rattle.journal.specs.Machine.{start as started_for, answers};
@@ -18,9 +18,17 @@ impl Journal {
     pub fn new() -> Journal
         ensures { state result ≡ started_for 0 }
     {
+        Journal::for_base(0)
+    }
+
+    // A journal for a base of `length` places, without corrections.
+    fn for_base(length: u32) -> Journal
+        requires { length ≤ 1048576 }
+        ensures { state result ≡ started_for length }
+    {
         Journal {
-            started: 0,
-            table: Table::empty(),
+            started: length,
+            table: Table::kept(length),
             words: WordStore::empty(),
         }
     }
@@ -34,11 +42,7 @@ impl Journal {
         if length > MOST_PLACES {
             return Err(Refusal::TooLong);
         }
-        *self = Journal {
-            started: length,
-            table: Table::kept(length),
-            words: WordStore::empty(),
-        };
+        *self = Journal::for_base(length);
         Ok(())
     }
 

@@ -1,36 +1,11 @@
 // Correcting a journal: entering, striking and replacing.
-ghost use Rattle.std.specs.Prelude.{◌≡◌, ◌+◌, ◌≤◌, true, [], is_err, nat_lt};
+ghost use Rattle.std.specs.Prelude.{◌≡◌, true, [], is_err};
 ghost use Rattle.series.specs.Refusals.{by_number};
 ghost use Rattle.journal.specs.Machine.{outcome, correction};
-ghost use Rattle.journal.specs.Journals.{state, limits};
+ghost use Rattle.journal.specs.Journals.{state};
 
 use super::{Journal, MOST_PLACES};
-use crate::words::MOST_WORDS;
 use series::refusal::Refusal;
-
-// Whether `held` and `more` together pass `limit`; by their difference, since the sum may not fit.
-fn passes(held: usize, more: usize, limit: usize) -> bool
-    requires { held ≤ limit }
-    ensures { result ≡ nat_lt limit (held + more) }
-{
-    more > limit - held
-}
-
-// Refuses a correction that leaves `rest` places and `used` words, and adds `more` of both, where it
-// makes too many places, and next where it makes too many words.
-fn check_limits(rest: usize, used: usize, more: usize) -> Result<(), Refusal>
-    requires places { rest ≤ 1048576 }
-    requires words { used ≤ 1024 }
-    ensures { by_number result ≡ limits rest used more }
-{
-    if passes(rest, more, MOST_PLACES as usize) {
-        return Err(Refusal::TooLong);
-    }
-    if passes(used, more, MOST_WORDS) {
-        return Err(Refusal::TooManyWords);
-    }
-    Ok(())
-}
 
 impl Journal {
     // Enters `words` at `place`. Refuses and answers as `replace` does.
@@ -60,13 +35,18 @@ impl Journal {
         if u64::from(place) + u64::from(struck) > u64::from(length) {
             return Err(Refusal::NoSuchPlace);
         }
+        // By differences, since a sum may not fit.
         let rest = length - struck;
-        let used = self.words.len();
-        check_limits(rest as usize, used, words.len())?;
+        if words.len() > (MOST_PLACES - rest) as usize {
+            return Err(Refusal::TooLong);
+        }
+        if words.len() > self.words.room() {
+            return Err(Refusal::TooManyWords);
+        }
         let entered = words.len() as u32;
-        let table = self.table.edited(place, struck, used as u32, entered)?;
+        let first = self.words.len() as u32;
+        self.table = self.table.edited(place, struck, first, entered)?;
         self.words.append(words);
-        self.table = table;
         Ok(rest + entered)
     }
 }

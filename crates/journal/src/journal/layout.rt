@@ -6,21 +6,20 @@ ghost use Rattle.journal.specs.Pieces.{stretch, part};
 ghost use Rattle.journal.specs.Tables.{Made};
 ghost use Rattle.journal.specs.Journals.{state, told_by};
 ghost use Rattle.journal.specs.Tidied.{neat};
-ghost use Rattle.journal.specs.Layouts.{table_of, Lays, Takes, Extended, Completes, Completed};
+ghost use Rattle.journal.specs.Layouts.{Lays, Takes, Extended, Completes, Completed};
 
 use super::Journal;
 use crate::piece::{Piece, Source};
 use crate::table::Table;
-use crate::words::{MOST_WORDS, WordStore};
+use crate::words::WordStore;
 use series::refusal::Refusal;
 
-// A layout that is crowded had a piece too many; it goes on to take words, since too many words
-// are refused before too many pieces.
+// A layout whose table refused a piece goes on to take words, since too many words are refused
+// before too many pieces.
 #[derive(Clone, Copy)]
 pub(crate) struct Layout {
-    pub(super) table: Table,
-    pub(super) words: WordStore,
-    crowded: bool,
+    table: Result<Table, Refusal>,
+    words: WordStore,
 }
 
 impl Layout {
@@ -29,24 +28,22 @@ impl Layout {
         ensures { Lays result [] }
     {
         Layout {
-            table: Table::empty(),
+            table: Ok(Table::empty()),
             words: WordStore::empty(),
-            crowded: false,
         }
     }
 
     // Puts a piece after the others, or finds that it is one too many.
     fn push(&mut self, piece: Piece)
-        requires { (os : List (AnOrigin (Unit {0}))) × Made (table_of self.old) os × (count_of os + piece.count ≤ 1048576) }
-        ensures table { (os : List (AnOrigin (Unit {0}))) → Made (table_of self.old) os → Made (table_of self.new) (os ++ stretch piece.source piece.first piece.count) }
+        requires { (os : List (AnOrigin (Unit {0}))) × Made self.old.table os × (count_of os + piece.count ≤ 1048576) }
+        ensures table { (os : List (AnOrigin (Unit {0}))) → Made self.old.table os → Made self.new.table (os ++ stretch piece.source piece.first piece.count) }
         ensures words { self.new.words ≡ self.old.words }
     {
-        if self.crowded {
+        let Ok(table) = &mut self.table else {
             return;
-        }
-        match self.table.push_joined(piece) {
-            Ok(()) => {}
-            Err(_) => self.crowded = true,
+        };
+        if let Err(refusal) = table.push_joined(piece) {
+            self.table = Err(refusal);
         }
     }
 
@@ -56,7 +53,7 @@ impl Layout {
         ensures { Extended self.old self.new (map entered_word words.now) result }
     {
         let used = self.words.len();
-        if words.len() > MOST_WORDS - used {
+        if words.len() > self.words.room() {
             return Err(Refusal::TooManyWords);
         }
         self.push(Piece {
@@ -106,12 +103,9 @@ impl Layout {
         requires { (xs : List (Answer ℕ)) × Completes self.now started xs }
         ensures { (xs : List (Answer ℕ)) → Completes self.now started xs → Completed result (neat started xs) }
     {
-        if self.crowded {
-            return Err(Refusal::TooManyPieces);
-        }
         Ok(Journal {
             started,
-            table: self.table,
+            table: self.table?,
             words: self.words,
         })
     }

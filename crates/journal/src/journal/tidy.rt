@@ -21,8 +21,7 @@ impl Journal {
         ensures alone { (other : State ℕ) → IsTidied other → other.started ≡ (state self.old).started → answers other ≡ answers (state self.old) → other ≡ state self.new }
     {
         let mut layout = Layout::new();
-        let _ = layout.take(self, 0, self.length());
-        self.table = layout.table;
-        self.words = layout.words;
+        layout.take(self, 0, self.length()).unwrap();
+        *self = layout.finish(self.started).unwrap();
     }
 }

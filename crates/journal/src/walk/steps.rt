@@ -18,8 +18,8 @@ impl Journal {
         ensures origins { flat_map origins_of (coming result) ≡ (state self.now).origins }
     {
         Walk {
-            journal: self,
-            next: 0,
+            pieces: self.pieces().iter(),
+            words: self.words(),
         }
     }
 }
@@ -29,27 +29,20 @@ impl<'a> Walk<'a> {
     pub fn next_run(&mut self) -> Option<Run<'a>>
         ensures { (option_map said result, coming self.new) ≡ next_of (coming self.old) }
     {
-        let journal = self.journal;
-        let pieces = journal.pieces();
-        if self.next >= pieces.len() {
-            return None;
-        }
-        let piece = pieces[self.next];
-        self.next += 1;
-        match piece.source {
-            Source::Kept => Some(Run::Kept {
+        let piece = self.pieces.next()?;
+        Some(match piece.source {
+            Source::Kept => Run::Kept {
                 place: piece.first,
                 count: piece.count,
-            }),
+            },
             Source::Entered => {
                 let first = piece.first as usize;
-                let words = journal.words();
-                Some(Run::Entered {
+                Run::Entered {
                     first: piece.first,
-                    words: &words[first..first + piece.count as usize],
-                })
+                    words: &self.words[first..first + piece.count as usize],
+                }
             }
-        }
+        })
     }
 }
 

@@ -1,7 +1,6 @@
-use Rattle.std.proofs.Common.{◌≡◌, ℕ, ◌≤◌, map, length, Ok, Result, sym, refl, ap, ◌∙◌, ap₂, arith}
+use Rattle.std.proofs.Common.{◌≡◌, ℕ, ◌≤◌, map, length, Ok, Result, sym, ap, ◌∙◌, ap₂, arith}
 use mathlib.Core.Path.{subst⁻¹}
 use lib.ListN.{length-map}
-use Rattle.std.proofs.lemmas.Bool.{false≢true}
 use Rattle.std.proofs.lemmas.Result.{err_from_is_err_and}
 use Rattle.journal.specs.Machine.{State, answer, answers, pieces}
 use Rattle.journal.specs.Journals.{state}
@@ -39,29 +38,22 @@ completes c = (
 pub finish-requires : goal.finish-requires
 finish-requires c = (map (followed (answers (state c.args.lower.now))) (answers (state c.args.upper.now)), completes c)
 
-pub returns-in_err-third : goal.returns-in_err-third
-returns-in_err-third c =
+pub returns-in_err-third-clause-outcome : goal.returns-in_err-third-clause-outcome
+returns-in_err-third-clause-outcome c =
     let p = err_from_is_err_and c.from_residual-in_err-third.result c.from_residual-in_err-third.ensures.1 in
-    let g = c.in_err-third.ensures _ (completes (goal.at.returns-in_err-third c).After-started-2) in
-    let w = (goal.at.returns-in_err-third c).In_ok-layout in
-    record {
-      outcome = rw (p.1, p.2, g.0) (fold_crowded (state c.args.lower.now) (state c.args.upper.now) (state c.args.third.now) (fits w) (room w) g.1);
-      same = λ _. refl;
-    }
+    let g = c.in_err-third.ensures _ (completes (goal.at.returns-in_err-third-clause-outcome c).After-started-2) in
+    let w = (goal.at.returns-in_err-third-clause-outcome c).In_ok-layout in
+    rw (p.1, p.2, g.0) (fold_crowded (state c.args.lower.now) (state c.args.upper.now) (state c.args.third.now) (fits w) (room w) g.1)
 
-pub returns : goal.returns
-returns c =
+pub returns-clause-outcome : goal.returns-clause-outcome
+returns-clause-outcome c =
     let lower = state c.args.lower.now in
     let upper = state c.args.upper.now in
     let xs = map (followed (answers lower)) (answers upper) in
-    let g = c.in_ok-third.ensures _ (completes (goal.at.returns c).After-started-2) in
-    let w = (goal.at.returns c).In_ok-layout in
+    let g = c.in_ok-third.ensures _ (completes (goal.at.returns-clause-outcome c).After-started-2) in
+    let w = (goal.at.returns-clause-outcome c).In_ok-layout in
     let is : state c.in_ok-third.field-0 ≡ folded lower upper = g ∙ ap (λ (n : ℕ). neat n xs) c.started-2.ensures in
     let long : c.length-2.result ≡ length (folded lower upper).origins =
     omega (arith, c.length-2.ensures, length-renumbered 0 xs, length-map (answers upper) (followed (answers lower)), length-map upper.origins answer) in
-    record {
-      outcome =
-          ap₂ (λ (n : ℕ) (s : State ℕ). let a : Result ℕ ℕ × State ℕ = (Ok n, s) in a) long is
-          ∙ ap (fold_answer (state c.args.third.now)) (sym (accepted w (omega (arith, ap (λ (s : State ℕ). pieces s.origins) is, (lawful_state c.in_ok-third.field-0).few))));
-      same = λ e. absurd (false≢true e);
-    }
+    ap₂ (λ (n : ℕ) (s : State ℕ). let a : Result ℕ ℕ × State ℕ = (Ok n, s) in a) long is
+    ∙ ap (fold_answer (state c.args.third.now)) (sym (accepted w (omega (arith, ap (λ (s : State ℕ). pieces s.origins) is, (lawful_state c.in_ok-third.field-0).few))))

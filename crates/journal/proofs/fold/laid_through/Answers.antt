@@ -1,4 +1,4 @@
-use Rattle.std.proofs.Common.{List, ◌∷◌, sym, ap, ◌∙◌, subst, arith}
+use Rattle.std.proofs.Common.{List, ◌∷◌, sym, ap, ◌∙◌, subst}
 use lib.ListN.{length-map}
 use Rattle.std.specs.List.{flat_map}
 use Rattle.std.proofs.lemmas.Result.{err_from_is_err_and}
@@ -37,9 +37,6 @@ entered-turn c =
     (next_cons (said c.in-Some.run') (coming c.next.new.self) (coming c.loop-run.run-iterator) c.in-Some.ensures.steps
     ∙ ap (λ (r : Handed). said r ∷ coming c.next.new.self) c.in-Entered.is)
     c.loop-run.invariant
-
-pub overflow_add-place : goal.overflow_add-place
-overflow_add-place c = omega (arith, (kept-turn (goal.at.overflow_add-place c).In-Kept).inside.0, state-few c.args.lower.now)
 
 pub take-requires : goal.take-requires
 take-requires c =

@@ -7,12 +7,12 @@ use Rattle.journal.specs.Machine.{base, entered, word}
 use Rattle.journal.specs.Pieces.{origin}
 use Rattle.journal.specs.Tables.{origins}
 use Rattle.journal.proofs.Fills.{well_nth}
-use Rattle.journal.proofs.Journals.{ends, well, tells}
+use Rattle.journal.proofs.Journals.{whole, well, tells}
 use Rattle.journal.proofs.journal.Journal.origin.Goals as goal
 use Rattle.journal.proofs.journal.Journal.origin.Goals.{In-Entered}
 
 pub find-requires : goal.find-requires
-find-requires c = record { used = c.args.self.now.few; ends = ends c.args.self.now }
+find-requires c = whole c.args.self.now
 
 pub returns-in_err-source : goal.returns-in_err-source
 returns-in_err-source c =
@@ -23,14 +23,11 @@ returns-in_err-source c =
 found : (c : goal.In-Entered) → Ok (entered c.in_ok-source.number tt) ≡ nth (origins c.args.self.now.table) c.args.place
 found c = ap (λ (s : Source). Ok (origin s c.in_ok-source.number)) (sym c.in-Entered.is) ∙ c.in_ok-source.ensures
 
-pub word-requires : goal.word-requires
-word-requires c =
+pub word-requires-clause-inside : goal.word-requires-clause-inside
+word-requires-clause-inside c =
     let j = c.args.self.now in
-    record {
-      used = j.room;
-      inside = well_nth 0 j.started j.words.used (origins j.table) c.args.place c.in_ok-source.number (well j)
-          (sym (found (goal.at.word-requires c).In-Entered));
-    }
+    well_nth 0 j.started j.words.used (origins j.table) c.args.place c.in_ok-source.number (well j)
+    (sym (found (goal.at.word-requires-clause-inside c).In-Entered))
 
 pub returns-in-Kept : goal.returns-in-Kept
 returns-in-Kept c =

@@ -1,5 +1,4 @@
 use Rattle.std.proofs.Common.{List, sym, ap, ◌∙◌, arith}
-use Rattle.std.proofs.lemmas.List.{drop_all}
 use Rattle.series.specs.Lists.{nth}
 use Rattle.journal.specs.Pieces.{piece, spread, within}
 use Rattle.journal.specs.declared.piece.Piece.{Piece}
@@ -30,10 +29,3 @@ pub loop-piece-preserved : goal.loop-piece-preserved
 loop-piece-preserved c =
     c.loop-piece.invariant
     ∙ find_more c.as_slice-pieces.result.now c.loop-piece.piece-index c.loop-piece.left blank c.loop-piece-test.true c.if-left-piece.false
-
-pub returns : goal.returns
-returns c =
-    let ps = c.as_slice-pieces.result.now in
-    sym (ap (λ (qs : List Piece). nth (spread qs) c.loop-piece.left) (drop_all c.loop-piece.piece-index ps c.loop-piece-test.false))
-    ∙ sym c.loop-piece.invariant
-    ∙ ap (λ (qs : List Piece). nth (spread qs) c.args.place) c.as_slice-pieces.ensures

@@ -1,8 +1,6 @@
-use Rattle.std.proofs.Common.{◌≡◌, ◌+◌, List, ◌++◌, take, drop, sym, refl, ap, ◌∙◌, arith}
-use lib.Seq.{drop-nil, take-nil}
-use Rattle.std.proofs.lemmas.List.{append-nil, take_all}
+use Rattle.std.proofs.Common.{◌≡◌, ◌+◌, ◌++◌, take, ap, ◌∙◌, arith}
 use Rattle.std.proofs.lemmas.Result.{err_from_is_err_and}
-use Rattle.journal.specs.Machine.{Origin, pieces}
+use Rattle.journal.specs.Machine.{pieces}
 use Rattle.journal.specs.Pieces.{piece, stretch, spread, part}
 use Rattle.journal.specs.Tables.{origins}
 use Rattle.journal.specs.declared.piece.Piece.{Piece}
@@ -23,27 +21,13 @@ turn c =
     c.args.start c.args.end c.loop-piece.at c.args.pieces.now c.loop-piece.piece-index blank c.loop-piece-test.true
     c.loop-piece.invariant.0 c.loop-piece.invariant.1.1 c.cut.ensures.places
 
-pub loop-piece-init : goal.loop-piece-init
-loop-piece-init c = (
-  refl,
-  (
-    c.requires.tidy,
-    sym (append-nil (origins c.args.self.now))
-        ∙ ap (λ (x : List (Origin (Unit {0}))). origins c.args.self.now ++ x)
-        (sym (drop-nil c.args.start) ∙ ap (drop c.args.start) (sym (take-nil c.args.end))),
-  ),
-)
-
 pub cut-requires : goal.cut-requires
 cut-requires c = omega (arith, within-at 1048576 c.args.pieces.now c.loop-piece.piece-index blank c.loop-piece-test.true c.requires.ends)
 
-pub push_joined-requires : goal.push_joined-requires
-push_joined-requires c =
-    record {
-      tidy = c.loop-piece.invariant.1.0;
-      short = step_short (origins c.args.self.now) (origins c.loop-piece.self) c.cut.result.source c.cut.result.first c.cut.result.count
-          c.args.start c.args.end (spread (take (c.loop-piece.piece-index + 1) c.args.pieces.now)) (turn c) c.requires.short;
-    }
+pub push_joined-requires-clause-short : goal.push_joined-requires-clause-short
+push_joined-requires-clause-short c =
+    step_short (origins c.args.self.now) (origins c.loop-piece.self) c.cut.result.source c.cut.result.first c.cut.result.count
+    c.args.start c.args.end (spread (take (c.loop-piece.piece-index + 1) c.args.pieces.now)) (turn c) c.requires.short
 
 pub returns-in_err-push_joined : goal.returns-in_err-push_joined
 returns-in_err-push_joined c =
@@ -77,11 +61,3 @@ loop-piece-preserved c =
       omega (arith, c.loop-piece.invariant.0, length_more c.args.pieces.now c.loop-piece.piece-index blank c.loop-piece-test.true),
       (g.0, g.1 ∙ e),
     )
-
-pub returns : goal.returns
-returns c = (
-  c.loop-piece.invariant.1.0,
-  c.loop-piece.invariant.1.1
-      ∙ ap (λ (ps : List Piece). origins c.args.self.now ++ part c.args.start c.args.end (spread ps))
-      (take_all c.loop-piece.piece-index c.args.pieces.now c.loop-piece-test.false),
-)

@@ -1,6 +1,5 @@
 use Rattle.std.proofs.Common.{◌≡◌, ℕ, ◌+◌, ◌-◌, List, [], ◌++◌, length, get_or, take, drop, sym, refl, ap, ◌∙◌, subst, ap₂, arith, length-append}
-use lib.Seq.{drop-nil, take-nil}
-use Rattle.std.proofs.lemmas.List.{append-nil, take_all}
+use Rattle.std.proofs.lemmas.List.{take_all}
 use Rattle.std.proofs.lemmas.Result.{err_from_is_err_and}
 use Rattle.journal.specs.declared.piece.Piece.{Piece}
 use Rattle.journal.specs.declared.piece.Source.{Source}
@@ -41,17 +40,6 @@ turn c =
     (stretch c.cut.result.source c.cut.result.first c.cut.result.count)
     c.args.start c.args.end c.loop-piece.at c.as_slice-pieces.result.now c.loop-piece.piece-index blank c.loop-piece-test.true
     c.loop-piece.invariant.0 refl c.cut.ensures.places
-
-pub loop-piece-init : goal.loop-piece-init
-loop-piece-init c = (
-  refl,
-  λ xs h.
-      subst (Lays c.args.self.now)
-      (sym (append-nil xs)
-      ∙ ap (λ (os : Os). xs ++ told_by c.as_slice-words.result.now os)
-      (sym (drop-nil c.args.start) ∙ ap (drop c.args.start) (sym (take-nil c.args.end))))
-      h,
-)
 
 pub cut-requires : goal.cut-requires
 cut-requires c =
