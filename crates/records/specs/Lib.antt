@@ -2,3 +2,4 @@ pub mod Records
 pub mod Recorded
 pub mod Faults
 pub mod Batches
+pub mod Writers
