@@ -10,12 +10,13 @@ use Rattle.journal.specs.Lawful.{Lawful}
 use Rattle.journal.specs.Pieces.{piece, stretch, spread, bare, gathered, length-spread}
 use Rattle.journal.proofs.Joins.{empty_test, joins_test}
 use Rattle.journal.proofs.Counts.{pieces-spread}
-use Rattle.journal.proofs.Places.{Sound as SoundPieces, sound-after, sound-start}
+use Rattle.journal.proofs.Places.{SoundPieces, sound-after, sound-start}
 use Rattle.journal.proofs.Nths.{none, nth_unmap}
+use Rattle.journal.proofs.Fills.{map-spliced}
 use Rattle.journal.proofs.Gathered.{pieces-bare, joined-gathered, spread-gathered, total-gathered}
 use Rattle.journal.proofs.Truths.{sound_lawful, lawful, rising, lawful_tidied, lawful_fold}
 use Rattle.history.specs.Calls.{Call, ran}
-use Rattle.history.proofs.Lists.{Ways, before, fresh, behind, ways, nth_more, nth_skip, map-spliced}
+use Rattle.history.proofs.Lists.{Ways, before, fresh, behind, ways, nth_more, nth_skip}
 use Rattle.history.proofs.Runs.{passed, keeps}
 use Rattle.folding.specs.Piles.{Sound}
 use Rattle.folding.specs.Journals.{JournalLaw}

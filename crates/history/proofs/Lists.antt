@@ -1,15 +1,9 @@
 -- What stands at a place of a list, and of one with a stretch replaced.
 use Rattle.std.proofs.Common.{◌≡◌, ℕ, zero, suc, ◌+◌, ◌-◌, ◌<◌, ◌≤◌, ◌⊎◌, List, [], ◌∷◌, ◌++◌, map, length, take, drop, Ok, sym, refl, ap, ◌∙◌, ap₂, inl, inr, map-id, suc-add, zero-add, arith, length-append}
-use Rattle.std.proofs.lemmas.List.{map-append, take-map, drop-map, length-take-le, length-drop}
+use Rattle.std.proofs.lemmas.List.{length-take-le, length-drop}
 use Rattle.std.proofs.lemmas.Bool.{cases_lt}
 use Rattle.series.specs.Lists.{nth, spliced, up_from, indexed}
 use Rattle.journal.proofs.Nths.{none}
-
-pub map-spliced : {A B : Type 0} (f : A → B) (p s : ℕ) (new old : List A) → map f (spliced p s new old) ≡ spliced p s (map f new) (map f old)
-map-spliced {B = B} f p s new old =
-    map-append f (take p old) (new ++ drop (p + s) old) ∙
-    ap₂ (λ (a b : List B). a ++ b) (sym (take-map f p old))
-    (map-append f new (drop (p + s) old) ∙ ap (λ (b : List B). map f new ++ b) (sym (drop-map f (p + s) old)))
 
 pub length-spliced : {A : Type 0} (p s : ℕ) (new old : List A) → p + s ≤ length old → length (spliced p s new old) + s ≡ length old + length new
 length-spliced p s new old h =

@@ -9,7 +9,7 @@ use Rattle.journal.specs.Pieces.{bare}
 use Rattle.journal.proofs.Gathered.{pieces-bare}
 use Rattle.history.specs.Calls.{Call, correct, draft, batch, tidy, called, ran}
 use Rattle.history.specs.History.{Turn, turn, turns_of, turns_in, turns}
-use Rattle.history.proofs.Lists.{map-spliced}
+use Rattle.journal.proofs.Fills.{map-spliced}
 
 -- a check, by all the numbers that it looks at
 abbrev verdict : ℕ → ℕ → ℕ → ℕ → ℕ → ℕ → Result ℕ ℕ

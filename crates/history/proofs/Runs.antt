@@ -11,7 +11,8 @@ use Rattle.journal.specs.Tidied.{tidied}
 use Rattle.journal.proofs.Nths.{nth-map_ok, nth_unmap}
 use Rattle.history.specs.Calls.{Call, correct, draft, batch, tidy, called, ran}
 use Rattle.history.specs.History.{Turn, turn, turns_of, turns_in, turns, map_call}
-use Rattle.history.proofs.Lists.{map-spliced, indexed-same, nth-up_from, up_from-nth}
+use Rattle.journal.proofs.Fills.{map-spliced}
+use Rattle.history.proofs.Lists.{indexed-same, nth-up_from, up_from-nth}
 
 module _ {W : Type 0} where
   pub length-answers : (st : State W) → length (answers st) ≡ length st.origins

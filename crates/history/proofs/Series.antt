@@ -12,7 +12,8 @@ use Rattle.journal.proofs.Tidying.{answers-tidied}
 use Rattle.history.specs.Calls.{Call, ran}
 use Rattle.history.specs.Laid.{cell_of, laid, readings, corrections}
 use Rattle.history.specs.History.{Turn, accepted, all_struck, all_entered}
-use Rattle.history.proofs.Lists.{map-spliced, length-spliced, length-up_from}
+use Rattle.journal.proofs.Fills.{map-spliced}
+use Rattle.history.proofs.Lists.{length-spliced, length-up_from}
 use Rattle.history.proofs.Runs.{keeps, fits, answers-start, answers-edited}
 
 module _ {W : Type 0} where

@@ -15,8 +15,6 @@ ghost use Rattle.history.specs.History.{HistoryLaw};
 // stands, origin answers the word and its reading is read. The length and all struck are together
 // the base's length and all entered. What is read is the base's cells with the accepted corrections
 // made on them in turn.
-pub fn history_stands<W, R>() -> u8
+pub fn history_stands<W, R>()
     ensures { HistoryLaw W R }
-{
-    0
-}
+{}
