@@ -18,10 +18,6 @@ pub fold_ok : (third after : State ℕ) (f : Result (State ℕ) ℕ) (n : ℕ) �
 fold_ok third after (Ok both) n e = ap (λ o. Ok o.1) e
 fold_ok third after (Err d) n e = let h = ap (λ o. o.0) e in let z : ◌≡◌ {A = ℕ} 0 1 = cc in absurd (omega arith)
 
-pub fold_err : (third after : State ℕ) (f : Result (State ℕ) ℕ) (d : ℕ) → (Err d, after) ≡ fold_answer third f → Err d ≡ f
-fold_err third after (Ok both) d e = let h = ap (λ o. o.0) e in let z : ◌≡◌ {A = ℕ} 0 1 = cc in absurd (omega arith)
-fold_err third after (Err r) d e = let h = ap (λ o. o.0) e in let same : d ≡ r = cc in ap Err same
-
 sound-state : (j : Journal) → Sound (state j)
 sound-state j = (journal_law ℕ).sound (state j) (lawful_state j)
 

@@ -12,7 +12,7 @@ use Rattle.pile.specs.declared.call.Call.TheVariants.{Enter, Strike, Replace, Ba
 abbrev pub heard : Written → Call ℕ
 heard (Enter place words) = correct (correction place 0 words.now)
 heard (Strike place count) = correct (correction place count [])
-heard (Replace place count words) = correct (correction place count words.now)
+heard (Replace c) = correct (asked c)
 heard (Batch bytes) = batch (records_in bytes.now).0 (records_in bytes.now).1
 heard (Draft corrections keep) = draft (map asked corrections.now) keep
 heard Tidy = tidy

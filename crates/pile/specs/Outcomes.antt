@@ -40,7 +40,7 @@ passing st (c ∷ cs) = cond (passes st c) 1 0 + passing (corrected st c) cs
 abbrev pub outcome_of : State ℕ → Written → Outcome
 outcome_of st (Enter place words) = correcting (check st (correction place 0 words.now))
 outcome_of st (Strike place count) = correcting (check st (correction place count []))
-outcome_of st (Replace place count words) = correcting (check st (correction place count words.now))
+outcome_of st (Replace c) = correcting (check st (asked c))
 outcome_of st (Batch bytes) = batching (batch_outcome st bytes.now).0
 outcome_of st (Draft corrections keep) = drafting (passing st (map asked corrections.now))
 outcome_of st Tidy = tidying

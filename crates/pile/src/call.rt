@@ -14,11 +14,7 @@ pub enum Call<'a> {
         count: u32,
     },
     // Both.
-    Replace {
-        place: u32,
-        count: u32,
-        words: &'a [u64],
-    },
+    Replace(Correction<'a>),
     // The corrections in these bytes, all of them or none.
     Batch(&'a [u8]),
     // These corrections in turn, a refused one passed over; all undone at the end unless they are kept.

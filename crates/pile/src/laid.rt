@@ -12,6 +12,7 @@ use journal::origin::Origin;
 use series::base::Base;
 use series::cell::Cell;
 use series::fault::Fault;
+use series::fault::causes::Cause;
 use series::reading::Reading;
 use series::refusal::Refusal;
 
@@ -75,10 +76,10 @@ impl<B: Base> Base for Laid<B> {
         ensures stands { ReadsItem B.Kind.Reading.reading (B.Base.cells self.now.base) (state self.now.journal) place (by_number result) }
     {
         match self.journal.origin(place)? {
-            Origin::Base(at) => match self.base.read(at) {
-                Ok(cell) => Ok(cell),
-                Err(_) => Ok(Cell::Fault(Fault::past_base(self.tag, at))),
-            },
+            Origin::Base(at) => {
+                let past = Cell::Fault(Fault::new(Cause::PastBase, self.tag, at));
+                Ok(self.base.read(at).unwrap_or(past))
+            }
             Origin::Entered(word) => Ok(Cell::Reading(B::Kind::from_word(word))),
         }
     }

@@ -2,6 +2,7 @@
 ghost use Rattle.std.specs.Prelude.{◌≡◌, map, length as count, if◌then◌else◌, slice_set};
 ghost use Rattle.journal.specs.Machine.{start, corrected_all};
 ghost use Rattle.journal.specs.Asked.{asked};
+ghost use Rattle.journal.specs.Drafts.{Continues};
 ghost use Rattle.journal.specs.Journals.{state};
 ghost use Rattle.history.specs.Calls.{ran};
 ghost use Rattle.history.specs.History.{Law};
@@ -18,22 +19,15 @@ use journal::journal::Journal;
 use records::batch::batch;
 use series::base::Base;
 
-fn one_if(accepted: bool) -> usize
-    ensures { result ≡ (if accepted then 1 else 0) }
-{
-    if accepted { 1 } else { 0 }
-}
-
 // Makes corrections in a draft in turn; a refused one is passed over. Answers how many were accepted.
 fn correct_all(draft: &mut Draft<'_>, corrections: &[Correction<'_>]) -> usize
     ensures accepted { result ≡ passing (state draft.old.journal.now) (map asked corrections.now) }
     ensures state { state draft.new.journal.now ≡ corrected_all (state draft.old.journal.now) (map asked corrections.now) }
-    ensures before { draft.new.before ≡ draft.old.before }
-    ensures follows { draft.new.journal.ghost_name ≡ draft.old.journal.ghost_name }
+    ensures continues { Continues draft.old draft.new }
 {
     let mut accepted = 0;
     for c in corrections {
-        accepted += one_if(draft.replace(c.place, c.struck, c.words).is_ok());
+        accepted += usize::from(draft.replace(c.place, c.struck, c.words).is_ok());
     }
     accepted
 }
@@ -58,11 +52,7 @@ pub fn carry_out(journal: &mut Journal, call: &Call<'_>) -> Outcome
     match *call {
         Call::Enter { place, words } => Outcome::Corrected(journal.enter(place, words)),
         Call::Strike { place, count } => Outcome::Corrected(journal.strike(place, count)),
-        Call::Replace {
-            place,
-            count,
-            words,
-        } => Outcome::Corrected(journal.replace(place, count, words)),
+        Call::Replace(c) => Outcome::Corrected(journal.replace(c.place, c.struck, c.words)),
         Call::Batch(bytes) => Outcome::Batched(batch(journal, bytes)),
         Call::Draft { corrections, keep } => Outcome::Drafted(draft_all(
             journal,
@@ -80,6 +70,7 @@ pub fn carry_out(journal: &mut Journal, call: &Call<'_>) -> Outcome
 fn note(outcomes: &mut [Outcome], at: usize, outcome: Outcome)
     ensures { outcomes.new ≡ slice_set outcomes.old at outcome }
 {
+    // Tested by length, since of a slice that `get_mut` lent from nothing is known afterwards.
     if at < outcomes.len() {
         outcomes[at] = outcome;
     }

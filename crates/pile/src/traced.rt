@@ -9,10 +9,8 @@ use journal::origin::Origin;
 use series::base::Base;
 use series::refusal::Refusal;
 
+pub mod bare;
 pub mod check;
-pub mod nominal;
-pub mod packed;
-pub mod register;
 
 pub trait Traced: Base {
     // The journals that lie here one on another, from the top; a bottom has none.

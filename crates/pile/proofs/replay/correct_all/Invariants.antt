@@ -1,5 +1,6 @@
 use Rattle.std.proofs.Common.{◌≡◌, ◌+◌, ◌≤◌, map, drop}
 use Rattle.journal.specs.Asked.{asked}
+use Rattle.journal.specs.Drafts.{Continues}
 use Rattle.journal.specs.Journals.{state}
 use Rattle.journal.specs.Machine.{corrected_all}
 use Rattle.pile.specs.Outcomes.{passing}
@@ -12,5 +13,4 @@ invariant-loop-c l =
     × (l.accepted + passing (state l.draft.journal.now) (map asked (drop l.c-index l.corrections))
     ≡ passing (state l.initial.draft.journal.now) (map asked l.corrections))
     × (l.accepted ≤ l.c-index)
-    × (l.draft.before ≡ l.initial.draft.before)
-    × (l.draft.journal.ghost_name ≡ l.initial.draft.journal.ghost_name)
+    × Continues l.initial.draft l.draft

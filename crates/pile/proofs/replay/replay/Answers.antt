@@ -11,9 +11,6 @@ use Rattle.pile.proofs.Starts.{started_for, law_of-laid}
 use Rattle.pile.proofs.Turns.{turns_more, turns_all}
 use Rattle.pile.proofs.replay.replay.Goals as goal
 
-pub loop-at-init : goal.loop-at-init
-loop-at-init g c = (refl, refl)
-
 pub loop-at-preserved : goal.loop-at-preserved
 loop-at-preserved g c =
     let i = c.loop-at.invariant in
