@@ -1,7 +1,7 @@
 // A line of the listing, and its text.
 ghost use Rattle.std.specs.Prelude.{Some};
 ghost use Rattle.journal.specs.Journals.{told};
-ghost use Rattle.listing.specs.Lines.{origin_text, cell_text, shown_line};
+ghost use Rattle.listing.specs.Lines.{origin_text, shown_line};
 
 use journal::origin::Origin;
 use series::cell::Cell;
@@ -16,13 +16,9 @@ pub struct Line {
     pub cell: Cell<Interval>,
 }
 
-// An origin as the listing shows it.
+// An origin as the listing shows it: an entered word is not told.
 #[derive(Clone, Copy)]
 pub struct OriginText(pub Origin);
-
-// A cell as the listing shows it.
-#[derive(Clone, Copy)]
-pub struct CellText(pub Cell<Interval>);
 
 impl fmt::Display for OriginText {
     ghost output = { λ o. Some (origin_text (told o.0)) };
@@ -35,33 +31,16 @@ impl fmt::Display for OriginText {
     }
 }
 
-impl fmt::Display for CellText {
-    ghost output = { λ c. Some (cell_text c.0) };
-
-    fn fmt<W: fmt::Write>(&self, f: &mut fmt::Formatter<W>) -> fmt::Result {
-        match self.0 {
-            Cell::Reading(x) => {
-                let amount = x.amount;
-                let status = x.status;
-                write!(f, "{amount} {status}")
-            }
-            Cell::Fault(x) => {
-                let cause = x.cause;
-                let tag = x.tag;
-                let place = x.place;
-                write!(f, "fault {cause} {tag} {place}")
-            }
-        }
-    }
-}
-
 impl fmt::Display for Line {
     ghost output = { λ l. Some (shown_line l) };
 
     fn fmt<W: fmt::Write>(&self, f: &mut fmt::Formatter<W>) -> fmt::Result {
-        let place = self.place;
-        let origin = OriginText(self.origin);
-        let cell = CellText(self.cell);
-        write!(f, "{place} {origin} {cell}")
+        write!(
+            f,
+            "{} {} {}",
+            self.place,
+            OriginText(self.origin),
+            self.cell
+        )
     }
 }
