@@ -1,7 +1,7 @@
 -- Corrections between semicolons, one after another.
-use Rattle.std.proofs.Common.{◌≡◌, ℕ, ◌<◌, Bool, true, false, cond, List, [], ◌∷◌, ◌++◌, length, Some, None, codes, Option, sym, refl, ap, ◌∙◌, ⊎_elim, arith}
+use Rattle.std.proofs.Common.{◌≡◌, ℕ, suc, ◌<◌, Bool, true, false, cond, List, [], ◌∷◌, ◌++◌, length, Some, None, codes, Option, sym, refl, ap, ◌∙◌, ⊎_elim, arith}
 use Rattle.std.proofs.lemmas.List.{append_assoc}
-use Rattle.std.proofs.lemmas.Bool.{true≢false, false≢true, cond-true, cond-false, cases_Bool}
+use Rattle.std.proofs.lemmas.Bool.{cond-true, cond-false, cases_Bool}
 use Rattle.std.specs.Option.{option_map}
 use Rattle.journal.specs.Machine.{Correction, correction}
 use Rattle.commands.specs.Arguments.{first_segment, past_segment, segment_in, correction_first}
@@ -117,7 +117,7 @@ first_is fs =
     first_at (numbers_in limits_of fs) (past_segment fs) (numbers-past limits_of fs) ∙ sym (ap (λ (r : Option (Correction ℕ)). option_map (λ c. (c, past_segment fs)) r) a)
 
 -- corrections past a semicolon
-abbrev others_in : Option (List Field) → Option (List (Correction ℕ))
+abbrev pub others_in : Option (List Field) → Option (List (Correction ℕ))
 others_in None = Some []
 others_in (Some fs) = corrections_in (segments fs)
 
@@ -147,26 +147,32 @@ after_more : (cs : List (Correction ℕ)) (c : Correction ℕ) (o : Option (List
 after_more cs c None = refl
 after_more cs c (Some ds) = ap Some (sym (append_assoc cs (c ∷ []) ds))
 
--- on past a semicolon
-pub corrections_more : (fs gs hs : List Field) (cs : List (Correction ℕ)) (c : Correction ℕ) (more : Bool) → corrections_in (segments fs) ≡ after cs (corrections_in (segments gs)) → correction_first gs ≡ Some (c, cond more (Some hs) None) → more ≡ true → corrections_in (segments fs) ≡ after (cs ++ (c ∷ [])) (corrections_in (segments hs))
-corrections_more fs gs hs cs c true inv e p = inv ∙ ap (after cs) (step gs ∙ ap then_others e) ∙ after_more cs c (corrections_in (segments hs))
-corrections_more fs gs hs cs c false inv e p = absurd (false≢true p)
+pub corrections_at : {A : Type 0} (f : A → List Field) (o : Option A) (x : A) (all : Option (List (Correction ℕ))) (cs : List (Correction ℕ)) →
+    all ≡ after cs (others_in (option_map f o)) → o ≡ Some x → all ≡ after cs (corrections_in (segments (f x)))
+corrections_at {A} f o x all cs inv is = inv ∙ ap (λ (q : Option A). after cs (others_in (option_map f q))) is
 
--- at the end
-pub corrections_all : (fs gs hs : List Field) (cs : List (Correction ℕ)) (c : Correction ℕ) (more : Bool) → corrections_in (segments fs) ≡ after cs (corrections_in (segments gs)) → correction_first gs ≡ Some (c, cond more (Some hs) None) → more ≡ false → corrections_in (segments fs) ≡ Some (cs ++ (c ∷ []))
-corrections_all fs gs hs cs c true inv e p = absurd (true≢false p)
-corrections_all fs gs hs cs c false inv e p = inv ∙ ap (after cs) (step gs ∙ ap then_others e)
+-- past one
+pub corrections_more : (all : Option (List (Correction ℕ))) (gs : List Field) (past : Option (List Field)) (cs : List (Correction ℕ)) (c : Correction ℕ) →
+    all ≡ after cs (corrections_in (segments gs)) → correction_first gs ≡ Some (c, past) → all ≡ after (cs ++ (c ∷ [])) (others_in past)
+corrections_more all gs past cs c inv e = inv ∙ ap (after cs) (step gs ∙ ap then_others e) ∙ after_more cs c (others_in past)
 
 -- at what is no correction
-pub corrections_stop : (fs gs : List Field) (cs : List (Correction ℕ)) → corrections_in (segments fs) ≡ after cs (corrections_in (segments gs)) → correction_first gs ≡ None → corrections_in (segments fs) ≡ None
-corrections_stop fs gs cs inv e = inv ∙ ap (after cs) (step gs ∙ ap then_others e)
+pub corrections_stop : (all : Option (List (Correction ℕ))) (gs : List Field) (cs : List (Correction ℕ)) → all ≡ after cs (corrections_in (segments gs)) → correction_first gs ≡ None → all ≡ None
+corrections_stop all gs cs inv e = inv ∙ ap (after cs) (step gs ∙ ap then_others e)
 
 past-from : (o : Option (Correction ℕ)) (past these : Option (List Field)) (c : Correction ℕ) → with_past past o ≡ Some (c, these) → past ≡ these
 past-from None past these c e = absurd (let z : ◌≡◌ {A = ℕ} 0 1 = cc in omega arith)
 past-from (Some d) past these c e = (some_pair d c past these e).1
 
--- what is left gets shorter
-pub corrections_less : (gs hs : List Field) (c : Correction ℕ) (more : Bool) → correction_first gs ≡ Some (c, cond more (Some hs) None) → more ≡ true → length hs < length gs
-corrections_less gs hs c true e p =
-    past_shorter gs hs (past-from (correction_in (first_segment gs)) (past_segment gs) (Some hs) c (sym (first_is gs) ∙ e))
-corrections_less gs hs c false e p = absurd (false≢true p)
+-- how much is left
+abbrev pub left : Option (List Field) → ℕ
+left None = 0
+left (Some fs) = suc (length fs)
+
+past_less : (gs : List Field) (past : Option (List Field)) → past_segment gs ≡ past → left past < suc (length gs)
+past_less gs None e = omega arith
+past_less gs (Some hs) e = omega (arith, past_shorter gs hs e)
+
+pub corrections_less : (gs : List Field) (past : Option (List Field)) (c : Correction ℕ) → correction_first gs ≡ Some (c, past) → left past < suc (length gs)
+corrections_less gs past c e =
+    past_less gs past (past-from (correction_in (first_segment gs)) (past_segment gs) past c (sym (first_is gs) ∙ e))

@@ -1,66 +1,79 @@
--- Hex digits pair by pair.
--- pair: the byte of two digits.
--- behind: the bytes of some pairs, behind the bytes of the pairs before them.
-use Rattle.std.proofs.Common.{◌≡◌, ℕ, ◌+◌, ◌-◌, ◌*◌, ◌≤◌, List, [], ◌∷◌, ◌++◌, length, get_or, take, drop, Some, None, Option, sym, refl, ap, ◌∙◌, append_assoc, arith}
+-- Bytes in hex: the crate hex reads them as the specification does.
+use Rattle.std.proofs.Common.{◌≡◌, ℕ, ◌+◌, ◌*◌, ◌/◌, ◌%◌, ◌≤◌, List, [], ◌∷◌, length, get_or, inl, inr, Some, None, Option, Result, Ok, Err, sym, refl, ap, ◌∙◌, arith}
+use Rattle.std.specs.Prelude.{MatchResult}
 use Rattle.std.specs.Option.{option_map}
-use Rattle.std.proofs.lemmas.List.{append-nil, take_rest}
+use Rattle.std.specs.Result.{result_ok}
+use Rattle.std.proofs.lemmas.Bool.{cases_eq}
 use Rattle.std.proofs.lemmas.Bool.Decides.{nat_tests}
+use Rattle.hex.specs.declared.error.FromHexError.{FromHexError}
+use Rattle.hex.specs.Hex.{decode_of, decode_pairs, decode_sized, digit_or_error, hex_digit_value, ◌>>=◌}
+use Rattle.hex.proofs.HexLemmas.{decode_of-even, decode_of-odd, decode_sized-odd, decode_sized-twice}
 use Rattle.commands.specs.Numerals.{and_some, hex_digit, hex_bytes, hex}
 
-abbrev pub pair : ℕ → ℕ → Option ℕ
-pair high low = and_some (hex_digit high) (λ h. and_some (hex_digit low) (λ l. Some (16 * h + l)))
+digit : (b : ℕ) → hex_digit_value b ≡ hex_digit b
+digit b = grind (arith, nat_tests)
 
-unfoldable pub behind : List ℕ → List ℕ → Option (List ℕ)
-behind front left = option_map (λ bs. front ++ bs) (hex_bytes left)
+-- a byte before those of a decoded rest, by the digits and the rest
+pair-by : (high low i j : ℕ) (h l : Option ℕ) (more : Result (List ℕ) FromHexError) →
+    result_ok ((digit_or_error high i h >>= (λ x. digit_or_error low j l >>= (λ y. Ok (x * 16 + y)))) >>= (λ b. more >>= (λ bs. Ok (b ∷ bs))))
+    ≡ and_some h (λ x. and_some l (λ y. option_map (λ bs. (16 * x + y) ∷ bs) (result_ok more)))
+pair-by high low i j None l more = refl
+pair-by high low i j (Some x) None more = refl
+pair-by high low i j (Some x) (Some y) (Err e) = refl
+pair-by high low i j (Some x) (Some y) (Ok bs) =
+    let same : x * 16 + y ≡ 16 * x + y = omega arith in
+    ap (λ (b : ℕ). Some (b ∷ bs)) same
 
-mapped_same : (o : Option (List ℕ)) → option_map (λ bs. [] ++ bs) o ≡ o
-mapped_same None = refl
-mapped_same (Some bs) = refl
+pub result_ok-decode_pairs : (i : ℕ) (field : List ℕ) → result_ok (decode_pairs i field) ≡ hex_bytes field
+unfolding decode_pairs
+result_ok-decode_pairs i [] = refl
+result_ok-decode_pairs i (b ∷ []) = refl
+result_ok-decode_pairs i (high ∷ (low ∷ more)) =
+    pair-by high low i (i + 1) (hex_digit_value high) (hex_digit_value low) (decode_pairs (i + 2) more)
+    ∙ rw (digit high, digit low, result_ok-decode_pairs (i + 2) more) refl
 
-pub behind_none : (front field : List ℕ) → front ≡ [] → behind front field ≡ hex_bytes field
-unfolding behind
-behind_none front field e = rw e (mapped_same (hex_bytes field))
+-- no bytes before a rest that is none
+none-by : (high low : Option ℕ) → None ≡ and_some high (λ h. and_some low (λ l. option_map (λ bs. (16 * h + l) ∷ bs) None))
+none-by None low = refl
+none-by (Some h) None = refl
+none-by (Some h) (Some l) = refl
 
-behind-by : (front : List ℕ) (high low : Option ℕ) (more : Option (List ℕ)) →
-    option_map (λ bs. front ++ bs) (and_some high (λ h. and_some low (λ l. option_map (λ bs. (16 * h + l) ∷ bs) more)))
-    ≡ and_some (and_some high (λ h. and_some low (λ l. Some (16 * h + l)))) (λ b. option_map (λ bs. (front ++ b ∷ []) ++ bs) more)
-behind-by front None low more = refl
-behind-by front (Some h) None more = refl
-behind-by front (Some h) (Some l) None = refl
-behind-by front (Some h) (Some l) (Some bs) = ap Some (sym (append_assoc front ((16 * h + l) ∷ []) bs))
+odd-none : (field : List ℕ) → length field % 2 ≡ 1 → None ≡ hex_bytes field
+odd-none [] odd = absurd (omega arith)
+odd-none (b ∷ []) odd = refl
+odd-none (high ∷ (low ∷ more)) odd =
+    rw (← (odd-none more (omega arith))) (none-by (hex_digit high) (hex_digit low))
 
-behind-pair : (front : List ℕ) (high low : ℕ) (more : List ℕ) →
-    behind front (high ∷ (low ∷ more)) ≡ and_some (pair high low) (λ b. behind (front ++ b ∷ []) more)
-unfolding behind
-behind-pair front high low more = behind-by front (hex_digit high) (hex_digit low) (hex_bytes more)
+pub result_ok-decode_of : (field : List ℕ) → result_ok (decode_of field) ≡ hex_bytes field
+result_ok-decode_of field =
+    elim (cases_eq (length field % 2) 1) [
+      | inl odd ↦ ap result_ok (decode_of-odd field odd) ∙ odd-none field odd
+      | inr even ↦ ap result_ok (decode_of-even field (omega arith)) ∙ result_ok-decode_pairs 0 field
+    ]
 
-behind-at : (front left : List ℕ) → 2 ≤ length left →
-    behind front left ≡ and_some (pair (get_or left 0 0) (get_or left 1 0)) (λ b. behind (front ++ b ∷ []) (drop 2 left))
-behind-at front [] h = absurd (omega arith)
-behind-at front (high ∷ []) h = absurd (omega arith)
-behind-at front (high ∷ (low ∷ more)) h = behind-pair front high low more
+-- into room for half as many bytes
+pub result_ok-decode_sized : (field : List ℕ) → result_ok (decode_sized field (length field / 2)) ≡ hex_bytes field
+result_ok-decode_sized field =
+    elim (cases_eq (length field % 2) 1) [
+      | inl odd ↦ ap result_ok (decode_sized-odd field (length field / 2) odd) ∙ odd-none field odd
+      | inr even ↦
+          let twice : length field ≡ 2 * (length field / 2) = omega arith in
+          ap result_ok (decode_sized-twice field (length field / 2) twice) ∙ result_ok-decode_of field
+    ]
 
-pub behind_more : (front left : List ℕ) (b : ℕ) → 2 ≤ length left → Some b ≡ pair (get_or left 0 0) (get_or left 1 0) →
-    behind (front ++ b ∷ []) (take (length left - 2) (drop 2 left)) ≡ behind front left
-behind_more front left b h e =
-    ap (behind (front ++ b ∷ [])) (take_rest left 2)
-    ∙ ap (λ (o : Option ℕ). and_some o (λ k. behind (front ++ k ∷ []) (drop 2 left))) e
-    ∙ sym (behind-at front left h)
+-- what decoding into room leaves there
+abbrev pub Decoded : Result (List ℕ) FromHexError → Result Unit FromHexError → List ℕ → Type 0
+Decoded decoded answer out = MatchResult decoded (λ bytes. (answer ≡ Ok tt) × (out ≡ bytes)) (λ e. answer ≡ Err e)
 
-pub behind_stop : (front left : List ℕ) → 2 ≤ length left → None ≡ pair (get_or left 0 0) (get_or left 1 0) → None ≡ behind front left
-behind_stop front left h e =
-    ap (λ (o : Option ℕ). and_some o (λ k. behind (front ++ k ∷ []) (drop 2 left))) e ∙ sym (behind-at front left h)
+pub read_all : (decoded : Result (List ℕ) FromHexError) (answer : Result Unit FromHexError) (out : List ℕ) →
+    Decoded decoded answer out → answer ≡ Ok tt → Some out ≡ result_ok decoded
+read_all (Ok bytes) answer out is ok = ap Some is.1
+read_all (Err e) answer out is ok = cc (sym is ∙ ok)
 
-pub behind_all : (front left : List ℕ) → length left ≡ 0 → Some front ≡ behind front left
-unfolding behind
-behind_all front [] h = ap Some (sym (append-nil front))
-behind_all front (b ∷ left) h = absurd (omega arith)
-
-pub behind_odd : (front left : List ℕ) → length left ≡ 1 → None ≡ behind front left
-unfolding behind
-behind_odd front [] h = absurd (omega arith)
-behind_odd front (b ∷ []) h = refl
-behind_odd front (b ∷ (d ∷ left)) h = absurd (omega arith)
+pub read_none : (decoded : Result (List ℕ) FromHexError) (answer : Result Unit FromHexError) (out : List ℕ) (e : FromHexError) →
+    Decoded decoded answer out → answer ≡ Err e → None ≡ result_ok decoded
+read_none (Ok bytes) answer out e is err = cc (sym is.0 ∙ err)
+read_none (Err d) answer out e is err = refl
 
 pub hex-short : (field : List ℕ) → length field ≡ 1 → (get_or field 0 0 ≡ 45 → ⊥) → hex_bytes field ≡ hex field
 hex-short [] h no-hyphen = absurd (omega arith)

@@ -1,6 +1,5 @@
 pub mod Stretches
 pub mod Readings
-pub mod NumbersIn
 pub mod Segments
 pub mod Corrections
 pub mod Lines

@@ -1,9 +1,7 @@
 -- Words up to a semicolon, and what comes past it.
-use Rattle.std.proofs.Common.{◌≡◌, ℕ, Bool, true, false, cond, eqb, List, [], ◌∷◌, ◌++◌, Some, None, codes, Option, sym, refl, ap, ◌∙◌, ap₂, ⊎_elim, arith}
-use Rattle.std.proofs.lemmas.List.{append_assoc}
-use Rattle.std.proofs.lemmas.Bool.{true≢false, false≢true, cond-true, cond-false, cases_Bool, eqb-true, and_parts}
+use Rattle.std.proofs.Common.{◌≡◌, ℕ, Bool, true, false, eqb, List, [], ◌∷◌, ◌++◌, Some, None, codes, Option, sym, refl, ap, ◌∙◌, ap₂, ⊎_elim, arith}
+use Rattle.std.proofs.lemmas.Bool.{cond-true, cond-false, cases_Bool, eqb-true, and_parts}
 use Rattle.std.specs.Option.{option_map}
-use Rattle.journal.specs.Walks.{next_of}
 use Rattle.commands.specs.Arguments.{first_segment, past_segment, segment_in}
 use Rattle.commands.specs.Fields.{Field}
 use Rattle.commands.specs.Numerals.{and_some, number_to}
@@ -17,10 +15,6 @@ Segment = List ℕ × Option (List Field)
 abbrev after : List ℕ → Option Segment → Option Segment
 after ws o = option_map (λ q. (ws ++ q.0, q.1)) o
 
-after-after : (ws vs : List ℕ) (o : Option Segment) → after ws (after vs o) ≡ after (ws ++ vs) o
-after-after ws vs None = refl
-after-after ws vs (Some q) = ap (λ (ks : List ℕ). Some (ks, q.1)) (sym (append_assoc ws vs q.0))
-
 joins : (past : Option (List Field)) (o : Option ℕ) (v : Option (List ℕ)) → option_map (λ ws. (ws, past)) (and_some o (λ w. option_map (λ ws. w ∷ ws) v)) ≡ and_some o (λ w. after (w ∷ []) (option_map (λ ws. (ws, past)) v))
 joins past None v = refl
 joins past (Some w) None = refl
@@ -32,20 +26,6 @@ segment_word f fs p =
     let a : first_segment (f ∷ fs) ≡ f ∷ first_segment fs = cond-false (same (codes ";") f) [] (f ∷ first_segment fs) p in
     let b : past_segment (f ∷ fs) ≡ past_segment fs = cond-false (same (codes ";") f) (Some fs) (past_segment fs) p in
     ap₂ (λ (gs : List Field) (past : Option (List Field)). option_map (λ ws. (ws, past)) (words_in gs)) a b ∙ joins (past_segment fs) (number_to all_words f) (words_in (first_segment fs))
-
--- a field that was handed out
-pub next-is : (gs hs : List Field) (f : Field) → (Some f, hs) ≡ next_of gs → gs ≡ f ∷ hs
-next-is [] hs f e = absurd (let s : ◌≡◌ {A = Option Field} (Some f) None = ap (λ (p : Option Field × List Field). p.0) e in let z : ◌≡◌ {A = ℕ} 0 1 = cc in omega arith)
-next-is (g ∷ gs) hs f e =
-    let s : ◌≡◌ {A = Option Field} (Some f) (Some g) = ap (λ (p : Option Field × List Field). p.0) e in
-    let t : hs ≡ gs = ap (λ (p : Option Field × List Field). p.1) e in
-    cc
-
--- on past a word
-pub segment_more : (fs gs hs : List Field) (f : Field) (w : ℕ) (ws : List ℕ) → segment_in fs ≡ after ws (segment_in gs) → gs ≡ f ∷ hs → same (codes ";") f ≡ false → number_to all_words f ≡ Some w → segment_in fs ≡ after (ws ++ (w ∷ [])) (segment_in hs)
-segment_more fs gs hs f w ws inv e p n =
-    let a : segment_in gs ≡ after (w ∷ []) (segment_in hs) = ap segment_in e ∙ segment_word f hs p ∙ ap (λ (o : Option ℕ). and_some o (λ v. after (v ∷ []) (segment_in hs))) n in
-    inv ∙ ap (after ws) a ∙ after-after ws (w ∷ []) (segment_in hs)
 
 -- a semicolon is no number
 semicolon_is : (f : Field) → same (codes ";") f ≡ true → f ≡ 59 ∷ []
@@ -83,10 +63,8 @@ words-ended (f ∷ fs) =
 pub words_none : (fs : List Field) → segment_in fs ≡ None → words_in fs ≡ None
 words_none fs e = words-ended fs ∙ ap (λ (o : Option Segment). and_some o ended) e
 
-pub words_stop : (fs gs : List Field) (ws : List ℕ) (more : Bool) → segment_in fs ≡ Some (ws, cond more (Some gs) None) → more ≡ true → words_in fs ≡ None
-words_stop fs gs ws true e p = words-ended fs ∙ ap (λ (o : Option Segment). and_some o ended) e
-words_stop fs gs ws false e p = absurd (false≢true p)
+pub words_stop : {A : Type 0} (fs : List Field) (ws : List ℕ) (f : A → List Field) (o : Option A) (x : A) → segment_in fs ≡ Some (ws, option_map f o) → o ≡ Some x → words_in fs ≡ None
+words_stop fs ws f o x e p = words-ended fs ∙ ap (λ (s : Option Segment). and_some s ended) (e ∙ ap (λ (q : Option _). Some (ws, option_map f q)) p)
 
-pub words_all : (fs gs : List Field) (ws : List ℕ) (more : Bool) → segment_in fs ≡ Some (ws, cond more (Some gs) None) → more ≡ false → words_in fs ≡ Some ws
-words_all fs gs ws true e p = absurd (true≢false p)
-words_all fs gs ws false e p = words-ended fs ∙ ap (λ (o : Option Segment). and_some o ended) e
+pub words_all : {A : Type 0} (fs : List Field) (ws : List ℕ) (f : A → List Field) (o : Option A) → segment_in fs ≡ Some (ws, option_map f o) → o ≡ None → words_in fs ≡ Some ws
+words_all fs ws f o e p = words-ended fs ∙ ap (λ (s : Option Segment). and_some s ended) (e ∙ ap (λ (q : Option _). Some (ws, option_map f q)) p)

@@ -1,95 +1,72 @@
 -- Bytes one after another: plain ones, those before a comment, separators and fields.
-use Rattle.std.proofs.Common.{◌≡◌, ℕ, zero, suc, ◌+◌, ◌<◌, ◌≤◌, Bool, true, false, cond, ◌&&◌, eqb, ◌⊎◌, List, [], ◌∷◌, ◌++◌, length, get_or, take, drop, Some, None, Option, sym, refl, ap, ◌∙◌, subst, inl, inr, arith}
-use Rattle.std.proofs.lemmas.List.{append_assoc, at_drop_more, at_drop_all, take_more, append-nil, take_all}
-use Rattle.std.proofs.lemmas.Bool.{cond-true, cond-false, and_left, eq-eqb, ne_eqb}
-use Rattle.journal.specs.Walks.{next_of}
+-- gap: how many separators stand at the front.
+-- stretch: how many bytes stand before the first separator.
+use Rattle.std.proofs.Common.{◌≡◌, ℕ, suc, ◌+◌, ◌<◌, ◌≤◌, Bool, true, false, not, cond, ◌&&◌, eqb, ◌⊎◌, List, [], ◌∷◌, length, take, drop, position, Some, None, Option, sym, refl, ap, ◌∙◌, subst, inl, inr, arith, length-drop}
+use Rattle.std.specs.Option.{unwrap_or}
+use Rattle.std.specs.List.{list_all, position_or_len}
+use Rattle.std.proofs.lemmas.List.{take_all, drop_all}
+use Rattle.std.proofs.lemmas.List.Recursion.{same_from_clauses}
+use Rattle.std.proofs.lemmas.List.Sums.{prefix_len-le-length}
+use Rattle.std.proofs.lemmas.Bool.{cond-true, cond-false}
+use Rattle.std.proofs.lemmas.Bool.Decides.{nat_tests}
 use Rattle.commands.specs.Fields.{Field, separates, plain, all_plain, uncommented, longer, before, fields}
-use Rattle.commands.specs.Coming.{gap, stretch}
 
--- all plain: on past a plain byte, at one that is not, and at the end
-pub plain_more : (bs : List ℕ) (i : ℕ) → i < length bs → all_plain (drop i bs) ≡ all_plain bs → plain (get_or bs i 0) ≡ true → all_plain (drop (i + 1) bs) ≡ all_plain bs
-plain_more bs i h inv p =
-    let e = at_drop_more all_plain bs i 0 h in
-    let f = ap (λ (x : Bool). x && all_plain (drop (i + 1) bs)) p in
-    sym (sym inv ∙ e ∙ f)
+pub all_plain_is : (bs : List ℕ) → list_all plain bs ≡ all_plain bs
+all_plain_is bs = same_from_clauses (list_all plain) all_plain (λ b all. plain b && all) refl (λ b bs. refl) (λ b bs. refl) bs
 
-pub plain_stops : (bs : List ℕ) (i : ℕ) → i < length bs → all_plain (drop i bs) ≡ all_plain bs → plain (get_or bs i 0) ≡ false → false ≡ all_plain bs
-plain_stops bs i h inv p =
-    let e = at_drop_more all_plain bs i 0 h in
-    sym (sym inv ∙ e ∙ and_left (plain (get_or bs i 0)) (all_plain (drop (i + 1) bs)) p)
+-- the first that passes
+pub found : (p : ℕ → Bool) (bs : List ℕ) (i : ℕ) → Some i ≡ position p bs → (i ≡ position_or_len p bs) × (i < length bs)
+found p bs i e = (grind (arith, nat_tests), grind (arith, nat_tests))
 
-pub plain_all : (bs : List ℕ) (i : ℕ) → length bs ≤ i → all_plain (drop i bs) ≡ all_plain bs → true ≡ all_plain bs
-plain_all bs i h inv = sym (at_drop_all all_plain bs i h) ∙ inv
+pub not_found : (p : ℕ → Bool) (bs : List ℕ) → None ≡ position p bs → length bs ≤ position_or_len p bs
+not_found p bs e = grind (arith, nat_tests)
 
--- what stands before a comment: on past a byte of it, at the comment, and at the end
-pub comment_more : (bs : List ℕ) (i : ℕ) → i < length bs → take i bs ++ uncommented (drop i bs) ≡ uncommented bs → (get_or bs i 0 ≡ 35 → ⊥) → take (i + 1) bs ++ uncommented (drop (i + 1) bs) ≡ uncommented bs
-comment_more bs i h inv p =
-    let b : ℕ = get_or bs i 0 in
-    let rest : List ℕ = uncommented (drop (i + 1) bs) in
-    let e : uncommented (drop i bs) ≡ cond (eqb b 35) [] (b ∷ rest) = at_drop_more uncommented bs i 0 h in
-    let f : cond (eqb b 35) [] (b ∷ rest) ≡ b ∷ rest = cond-false (eqb b 35) [] (b ∷ rest) (ne_eqb b 35 p) in
-    ap (λ (xs : List ℕ). xs ++ rest) (take_more bs i 0 h) ∙ append_assoc (take i bs) (b ∷ []) rest ∙ ap (λ (xs : List ℕ). take i bs ++ xs) (sym (e ∙ f)) ∙ inv
+place_or_end : (p : ℕ → Bool) (bs : List ℕ) → unwrap_or (position p bs) (length bs) ≡ position_or_len p bs
+place_or_end p bs = let h : position_or_len p bs ≤ length bs = prefix_len-le-length (λ b. not (p b)) bs in grind (arith, nat_tests)
 
-pub comment_stops : (bs : List ℕ) (i : ℕ) → i < length bs → take i bs ++ uncommented (drop i bs) ≡ uncommented bs → get_or bs i 0 ≡ 35 → take i bs ≡ uncommented bs
-comment_stops bs i h inv p =
-    let b : ℕ = get_or bs i 0 in
-    let rest : List ℕ = uncommented (drop (i + 1) bs) in
-    let e : uncommented (drop i bs) ≡ cond (eqb b 35) [] (b ∷ rest) = at_drop_more uncommented bs i 0 h in
-    let f : cond (eqb b 35) [] (b ∷ rest) ≡ [] = cond-true (eqb b 35) [] (b ∷ rest) (eq-eqb b 35 p) in
-    sym (append-nil (take i bs)) ∙ ap (λ (xs : List ℕ). take i bs ++ xs) (sym (e ∙ f)) ∙ inv
+pub end_at : (p : ℕ → Bool) (bs : List ℕ) (o : Option ℕ) (n : ℕ) → o ≡ position p bs → n ≡ unwrap_or o (length bs) → n ≡ position_or_len p bs
+end_at p bs o n e h = h ∙ ap (λ (q : Option ℕ). unwrap_or q (length bs)) e ∙ place_or_end p bs
 
-pub comment_all : (bs : List ℕ) (i : ℕ) → length bs ≤ i → take i bs ++ uncommented (drop i bs) ≡ uncommented bs → bs ≡ uncommented bs
-comment_all bs i h inv =
-    let e : uncommented (drop i bs) ≡ [] = at_drop_all uncommented bs i h in
-    sym (take_all i bs h) ∙ sym (append-nil (take i bs)) ∙ ap (λ (xs : List ℕ). take i bs ++ xs) (sym e) ∙ inv
+-- what stands before a comment
+uncommented-is : (bs : List ℕ) → take (position_or_len (λ b. eqb b 35) bs) bs ≡ uncommented bs
+uncommented-is [] = refl
+uncommented-is (b ∷ bs) =
+    let n : ℕ = position_or_len (λ (c : ℕ). eqb c 35) bs in
+    let one : 1 + n ≡ suc n = omega arith in
+    elim (eqb b 35) as (λ t. take (cond (not t) (1 + n) 0) (b ∷ bs) ≡ cond t [] (b ∷ uncommented bs)) [
+      | true ↦ refl
+      | false ↦ ap (λ (k : ℕ). take k (b ∷ bs)) one ∙ ap (λ (cs : List ℕ). b ∷ cs) (uncommented-is bs)
+    ]
 
--- separators, counted
-pub gap_more : (bs : List ℕ) (i : ℕ) → i < length bs → i + gap (drop i bs) ≡ gap bs → separates (get_or bs i 0) ≡ true → i + 1 + gap (drop (i + 1) bs) ≡ gap bs
-gap_more bs i h inv p =
-    let b : ℕ = get_or bs i 0 in
-    let n : ℕ = gap (drop (i + 1) bs) in
-    let e : gap (drop i bs) ≡ cond (separates b) (suc n) 0 = at_drop_more gap bs i 0 h in
-    let f : cond (separates b) (suc n) 0 ≡ suc n = cond-true (separates b) (suc n) 0 p in
-    let z = e ∙ f in
-    omega arith
+pub to_comment : (bs : List ℕ) (i : ℕ) → Some i ≡ position (λ b. eqb b 35) bs → take i bs ≡ uncommented bs
+to_comment bs i e = ap (λ (k : ℕ). take k bs) (found (λ b. eqb b 35) bs i e).0 ∙ uncommented-is bs
 
-pub gap_stops : (bs : List ℕ) (i : ℕ) → i < length bs → i + gap (drop i bs) ≡ gap bs → separates (get_or bs i 0) ≡ false → i ≡ gap bs
-gap_stops bs i h inv p =
-    let b : ℕ = get_or bs i 0 in
-    let n : ℕ = gap (drop (i + 1) bs) in
-    let e : gap (drop i bs) ≡ cond (separates b) (suc n) 0 = at_drop_more gap bs i 0 h in
-    let f : cond (separates b) (suc n) 0 ≡ 0 = cond-false (separates b) (suc n) 0 p in
-    let z : gap (drop i bs) ≡ 0 = e ∙ f in
-    omega arith
+pub no_comment : (bs : List ℕ) → None ≡ position (λ b. eqb b 35) bs → bs ≡ uncommented bs
+no_comment bs e = sym (take_all (position_or_len (λ b. eqb b 35) bs) bs (not_found (λ b. eqb b 35) bs e)) ∙ uncommented-is bs
 
-pub gap_all : (bs : List ℕ) (i : ℕ) → i ≡ length bs → i + gap (drop i bs) ≡ gap bs → length bs ≡ gap bs
-gap_all bs i h inv =
-    let z : gap (drop i bs) ≡ 0 = at_drop_all gap bs i (omega arith) in
-    omega arith
+abbrev gap : List ℕ → ℕ
+gap [] = 0
+gap (b ∷ bs) = cond (separates b) (suc (gap bs)) 0
 
--- bytes before a separator, counted
-pub stretch_more : (bs : List ℕ) (i : ℕ) → i < length bs → i + stretch (drop i bs) ≡ stretch bs → separates (get_or bs i 0) ≡ false → i + 1 + stretch (drop (i + 1) bs) ≡ stretch bs
-stretch_more bs i h inv p =
-    let b : ℕ = get_or bs i 0 in
-    let n : ℕ = stretch (drop (i + 1) bs) in
-    let e : stretch (drop i bs) ≡ cond (separates b) 0 (suc n) = at_drop_more stretch bs i 0 h in
-    let f : cond (separates b) 0 (suc n) ≡ suc n = cond-false (separates b) 0 (suc n) p in
-    let z = e ∙ f in
-    omega arith
+abbrev stretch : List ℕ → ℕ
+stretch [] = 0
+stretch (b ∷ bs) = cond (separates b) 0 (suc (stretch bs))
 
-pub stretch_stops : (bs : List ℕ) (i : ℕ) → i < length bs → i + stretch (drop i bs) ≡ stretch bs → separates (get_or bs i 0) ≡ true → i ≡ stretch bs
-stretch_stops bs i h inv p =
-    let b : ℕ = get_or bs i 0 in
-    let n : ℕ = stretch (drop (i + 1) bs) in
-    let e : stretch (drop i bs) ≡ cond (separates b) 0 (suc n) = at_drop_more stretch bs i 0 h in
-    let f : cond (separates b) 0 (suc n) ≡ 0 = cond-true (separates b) 0 (suc n) p in
-    let z : stretch (drop i bs) ≡ 0 = e ∙ f in
-    omega arith
+gap-is : (bs : List ℕ) → position_or_len (λ b. not (separates b)) bs ≡ gap bs
+gap-is [] = refl
+gap-is (b ∷ bs) =
+    elim (separates b) as (λ t. cond (not (not t)) (1 + (position_or_len (λ c. not (separates c)) bs)) 0 ≡ cond t (suc (gap bs)) 0) [
+      | true ↦ omega (arith, gap-is bs)
+      | false ↦ refl
+    ]
 
-pub stretch_all : (bs : List ℕ) (i : ℕ) → i ≡ length bs → i + stretch (drop i bs) ≡ stretch bs → length bs ≡ stretch bs
-stretch_all bs i h inv =
-    let z : stretch (drop i bs) ≡ 0 = at_drop_all stretch bs i (omega arith) in
-    omega arith
+stretch-is : (bs : List ℕ) → position_or_len separates bs ≡ stretch bs
+stretch-is [] = refl
+stretch-is (b ∷ bs) =
+    elim (separates b) as (λ t. cond (not t) (1 + position_or_len separates bs) 0 ≡ cond t 0 (suc (stretch bs))) [
+      | true ↦ refl
+      | false ↦ omega (arith, stretch-is bs)
+    ]
 
 -- separators at the front are no field
 gap-fields : (bs : List ℕ) → fields (drop (gap bs) bs) ≡ fields bs
@@ -126,34 +103,28 @@ stretch-fields b (c ∷ cs) p =
     ] in
     go (separates c) refl
 
--- what a step hands out, by the length of the stretch past the gap
-abbrev handed : ℕ → List ℕ → Option Field × List Field
-handed zero s = (None, fields s)
-handed (suc n) s = (Some (take (suc n) s), fields (drop (suc n) s))
+pub no_field : (bs : List ℕ) → None ≡ position (λ b. not (separates b)) bs → [] ≡ fields bs
+no_field bs e =
+    let h : length bs ≤ gap bs = omega (arith, not_found (λ b. not (separates b)) bs e, gap-is bs) in
+    ap fields (sym (drop_all (gap bs) bs h)) ∙ gap-fields bs
 
-front-handed : (s : List ℕ) → (s ≡ []) ⊎ ((b : ℕ) × (cs : List ℕ) × (s ≡ b ∷ cs) × (separates b ≡ false)) → handed (stretch s) s ≡ next_of (fields s)
-front-handed s (inl e) = rw e refl
-front-handed s (inr (b, cs, e, p)) =
+-- from where the first field begins on
+at_field : (s : List ℕ) → (s ≡ []) ⊎ ((b : ℕ) × (cs : List ℕ) × (s ≡ b ∷ cs) × (separates b ≡ false)) → 0 < length s →
+    take (stretch s) s ∷ fields (drop (stretch s) s) ≡ fields s
+at_field s (inl e) h = absurd (omega (arith, ap length e))
+at_field s (inr (b, cs, e, p)) h =
     let n : stretch (b ∷ cs) ≡ suc (stretch cs) = cond-false (separates b) 0 (suc (stretch cs)) p in
     let f : fields (b ∷ cs) ≡ (b ∷ take (stretch cs) cs) ∷ fields (drop (stretch cs) cs) = cond-false (separates b) (fields cs) (before b cs (fields cs)) p ∙ stretch-fields b cs p in
-    rw e (ap (λ (k : ℕ). handed k (b ∷ cs)) n ∙ sym (ap next_of f))
+    rw e (ap (λ (k : ℕ). take k (b ∷ cs) ∷ fields (drop k (b ∷ cs))) n ∙ sym f)
 
-next-handed : (bs s : List ℕ) (k : ℕ) → s ≡ drop (gap bs) bs → k ≡ stretch s → handed k s ≡ next_of (fields bs)
-next-handed bs s k e n =
+pub first_field : (bs s : List ℕ) (i k : ℕ) → Some i ≡ position (λ b. not (separates b)) bs → s ≡ drop i bs → k ≡ position_or_len separates s →
+    take k s ∷ fields (drop k s) ≡ fields bs
+first_field bs s i k e is ends =
+    let at = found (λ b. not (separates b)) bs i e in
+    let d : s ≡ drop (gap bs) bs = is ∙ ap (λ (j : ℕ). drop j bs) (at.0 ∙ gap-is bs) in
     let P : List ℕ → Type 0 = λ xs. (xs ≡ []) ⊎ ((b : ℕ) × (cs : List ℕ) × (xs ≡ b ∷ cs) × (separates b ≡ false)) in
-    ap (λ (j : ℕ). handed j s) n ∙ front-handed s (subst P (sym e) (gap_cases bs)) ∙ ap (λ (xs : List ℕ). next_of (fields xs)) e ∙ ap next_of (gap-fields bs)
-
-none_at : (s : List ℕ) (p : Option Field × List Field) (j : ℕ) → j ≡ 0 → handed j s ≡ p → (None, fields (drop j s)) ≡ p
-none_at s p zero z h = h
-none_at s p (suc j) z h = absurd (omega arith)
-
-some_at : (s : List ℕ) (p : Option Field × List Field) (j : ℕ) → (j ≡ 0 → ⊥) → handed j s ≡ p → (Some (take j s), fields (drop j s)) ≡ p
-some_at s p zero z h = absurd (z refl)
-some_at s p (suc j) z h = h
-
-pub next_none : (bs s : List ℕ) (k : ℕ) → s ≡ drop (gap bs) bs → k ≡ stretch s → k ≡ 0 → (None, fields (drop k s)) ≡ next_of (fields bs)
-next_none bs s k e n z =
-    none_at s (next_of (fields bs)) k z (next-handed bs s k e n)
-
-pub next-some : (bs s : List ℕ) (k : ℕ) → s ≡ drop (gap bs) bs → k ≡ stretch s → (k ≡ 0 → ⊥) → (Some (take k s), fields (drop k s)) ≡ next_of (fields bs)
-next-some bs s k e n z = some_at s (next_of (fields bs)) k z (next-handed bs s k e n)
+    let long : 0 < length s = omega (arith, ap length is, length-drop i bs, at.1) in
+    ap (λ (j : ℕ). take j s ∷ fields (drop j s)) (ends ∙ stretch-is s)
+    ∙ at_field s (subst P (sym d) (gap_cases bs)) long
+    ∙ ap fields d
+    ∙ gap-fields bs

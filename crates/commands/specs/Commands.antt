@@ -6,12 +6,13 @@
 -- command: each of these with the number of its journal; a fold; a place of a pile; a correction to write, and bytes to read one from.
 -- by_command: a command of the code, its lists told by their elements: the one definition that goes with it.
 -- Assumes nothing.
-use Rattle.std.specs.Prelude.{ℕ, Bool, List, [], map, vec_items}
+use Rattle.std.specs.Prelude.{ℕ, Bool, List, [], map, Some, None, vec_items}
 use Rattle.series.specs.declared.interval.Interval.{Interval}
 use Rattle.journal.specs.Machine.{Correction, correction}
 use Rattle.commands.specs.declared.command.OwnedCorrection.{OwnedCorrection}
+use Rattle.commands.specs.declared.command.Bottom.TheVariants.{Register, Nominal, Profile}
 use Rattle.commands.specs.declared.command.Layer.{Layer as WrittenLayer}
-use Rattle.commands.specs.declared.command.Layer.TheVariants.{Register, Nominal, Profile, Check, NoCheck}
+use Rattle.commands.specs.declared.command.Layer.TheVariants.{Bottom, Check}
 use Rattle.commands.specs.declared.command.Change.{Change as WrittenChange}
 use Rattle.commands.specs.declared.command.Change.TheVariants.{Start, Enter, Strike, Replace, Batch, Draft, Tidy}
 use Rattle.commands.specs.declared.command.View.{View}
@@ -47,11 +48,11 @@ abbrev pub owned : OwnedCorrection → Correction ℕ
 owned c = correction c.place c.struck (vec_items c.words)
 
 abbrev pub by_layer : WrittenLayer → Layer
-by_layer (Register readings) = register (vec_items readings)
-by_layer (Nominal reading length) = nominal reading length
-by_layer (Profile bytes) = profile (vec_items bytes)
-by_layer (Check tag limit) = check tag limit
-by_layer NoCheck = nocheck
+by_layer (Bottom (Register readings)) = register (vec_items readings)
+by_layer (Bottom (Nominal reading length)) = nominal reading length
+by_layer (Bottom (Profile bytes)) = profile (vec_items bytes)
+by_layer (Check (Some c)) = check c.tag c.limit
+by_layer (Check None) = nocheck
 
 abbrev pub by_change : WrittenChange → Change
 by_change (Start length) = begin length

@@ -5,3 +5,4 @@ pub mod Numerals
 pub mod Verbs
 pub mod Parsing
 pub mod Arguments
+pub mod Narrowing

@@ -1,99 +1,80 @@
-// A command's arguments: numbers, words and bytes.
-ghost use Rattle.std.specs.Prelude.{◌≤◌, length, if◌then◌else◌, Some as some, None as none, vec_items};
-ghost use Rattle.commands.specs.Arguments.{front, number_in, segment_in, Reads};
+// A command's arguments: its numbers, and the words or bytes behind them.
+ghost use Rattle.std.specs.Prelude.{vec_items};
+ghost use Rattle.std.specs.Option.{option_map};
+ghost use Rattle.commands.specs.Arguments.{segment_in, numbers_only, numbers_words, Reads};
 ghost use Rattle.commands.specs.Coming.{coming};
-ghost use Rattle.commands.specs.Parsing.{numbers_in, words_in, bytes_in, nothing_in};
+ghost use Rattle.commands.specs.Parsing.{words_in, bytes_in, nothing_in};
 
 use crate::fields::Fields;
 use crate::numbers::Numbers;
 use crate::numerals::{bytes, number};
 use crate::verbs::is_semicolon;
-use crate::wrong::{ParseFault, Wrong};
+use crate::wrong::{BAD_ARGUMENTS, ParseFault};
 use std::alloc::Global;
 
-// The fields are not what the command takes.
-pub(crate) const BAD_ARGUMENTS: ParseFault = ParseFault::Wrong(Wrong::BadArguments);
-
-// The next field as a number that is at most so large.
-fn read_number(fields: &mut Fields<'_>, most: u64) -> Result<u64, ParseFault>
-    ensures { Reads (λ n. (n, coming fields.new)) result (number_in most (coming fields.old)) }
-{
-    let Some(field) = fields.next_field() else {
-        return Err(BAD_ARGUMENTS);
-    };
-    match number(field, most) {
-        Some(n) => Ok(n),
-        None => Err(BAD_ARGUMENTS),
-    }
-}
-
-// The next fields as numbers, each at most its limit.
-pub(crate) fn read_numbers(fields: &mut Fields<'_>, limits: &[u64]) -> Result<Numbers, ParseFault>
-    requires { length limits.now ≤ 3 }
-    ensures { Reads (λ n. (front limits.now n, coming fields.new)) result (numbers_in limits.now (coming fields.old)) }
-{
-    let mut numbers = [0u64; 3];
-    for (i, most) in limits.iter().enumerate() {
-        numbers[i] = read_number(fields, *most)?;
-    }
-    Ok(Numbers {
-        first: numbers[0],
-        second: numbers[1],
-        third: numbers[2],
-    })
-}
-
-// The next fields as words, up to a semicolon, which is taken too, or to the end; and whether there was one.
-pub(crate) fn read_segment(
+// The words before the first semicolon, and the fields past it; None where there is no semicolon.
+pub(crate) fn read_segment<'a>(
     heap: Global,
-    fields: &mut Fields<'_>,
-) -> Result<(Vec<u64>, bool), ParseFault>
-    ensures { Reads (λ p. (p.0.items, (if p.1 then some (coming fields.new) else none))) result (segment_in (coming fields.old)) }
+    mut fields: Fields<'a>,
+) -> Result<(Vec<u64>, Option<Fields<'a>>), ParseFault>
+    ensures { Reads (λ p. (p.0.items, option_map coming p.1)) result (segment_in (coming fields.entry)) }
 {
     let mut words = Vec::new(heap);
-    while let Some(field) = fields.next_field() {
+    while let Some(field) = fields.next() {
         if is_semicolon(field) {
-            return Ok((words, true));
+            return Ok((words, Some(fields)));
         }
-        let Some(word) = number(field, u64::MAX) else {
-            return Err(BAD_ARGUMENTS);
-        };
-        words.push(word)?;
+        words.push(number(field).ok_or(BAD_ARGUMENTS)?)?;
     }
-    Ok((words, false))
+    Ok((words, None))
 }
 
-// All fields that are left as words.
-pub(crate) fn read_words(heap: Global, fields: &mut Fields<'_>) -> Result<Vec<u64>, ParseFault>
-    ensures { Reads vec_items result (words_in (coming fields.old)) }
+// All fields as words.
+pub(crate) fn read_words(heap: Global, fields: Fields<'_>) -> Result<Vec<u64>, ParseFault>
+    ensures { Reads vec_items result (words_in (coming fields.entry)) }
 {
-    let (words, more) = read_segment(heap, fields)?;
-    if more {
-        return Err(BAD_ARGUMENTS);
+    match read_segment(heap, fields)? {
+        (words, None) => Ok(words),
+        (_, Some(_)) => Err(BAD_ARGUMENTS),
     }
-    Ok(words)
 }
 
-// That no field is left.
-pub(crate) fn read_nothing(fields: &mut Fields<'_>) -> Result<(), ParseFault>
-    ensures { Reads (λ _. tt) result (nothing_in (coming fields.old)) }
+// That there is no field.
+fn read_nothing(mut fields: Fields<'_>) -> Result<(), ParseFault>
+    ensures { Reads (λ _. tt) result (nothing_in (coming fields.entry)) }
 {
-    match fields.next_field() {
+    match fields.next() {
         Some(_) => Err(BAD_ARGUMENTS),
         None => Ok(()),
     }
 }
 
-// The one field that is left as bytes.
-pub(crate) fn read_bytes(heap: Global, fields: &mut Fields<'_>) -> Result<Vec<u8>, ParseFault>
-    ensures { Reads vec_items result (bytes_in (coming fields.old)) }
+// The one field as bytes.
+pub(crate) fn read_bytes(heap: Global, mut fields: Fields<'_>) -> Result<Vec<u8>, ParseFault>
+    ensures { Reads vec_items result (bytes_in (coming fields.entry)) }
 {
-    let Some(field) = fields.next_field() else {
-        return Err(BAD_ARGUMENTS);
-    };
+    let field = fields.next().ok_or(BAD_ARGUMENTS)?;
     read_nothing(fields)?;
-    match bytes(heap, field)? {
-        Some(read) => Ok(read),
-        None => Err(BAD_ARGUMENTS),
-    }
+    bytes(heap, field)?.ok_or(BAD_ARGUMENTS)
+}
+
+// All fields as numbers.
+pub(crate) fn read_numbers<N: Numbers>(mut fields: Fields<'_>) -> Result<N, ParseFault>
+    ensures { Reads N.values result (numbers_only N.limits (coming fields.entry)) }
+{
+    let numbers = N::read(&mut fields)?;
+    read_nothing(fields)?;
+    Ok(numbers)
+}
+
+// Numbers, and all fields after them as words.
+pub(crate) fn read_numbers_and_words<N: Numbers>(
+    heap: Global,
+    mut fields: Fields<'_>,
+) -> Result<(N, Vec<u64>), ParseFault>
+    ensures { Reads (λ p. (N.values p.0, p.1.items)) result (numbers_words N.limits (coming fields.entry)) }
+{
+    let numbers = N::read(&mut fields)?;
+    let words = read_words(heap, fields)?;
+    Ok((numbers, words))
 }

@@ -1,5 +1,10 @@
 // Commands of the console, typed.
+ghost use Rattle.std.specs.Prelude.{◌≡◌};
+ghost use Rattle.journal.specs.Asked.{asked};
+ghost use Rattle.commands.specs.Commands.{owned};
+
 use crate::slot::Slot;
+use journal::correction::Correction;
 use series::interval::Interval;
 
 // At a place, so many readings are struck and these words entered there.
@@ -10,16 +15,40 @@ pub struct OwnedCorrection {
     pub words: Vec<u64>,
 }
 
-// What is to lie beneath the journals.
+impl OwnedCorrection {
+    // The same, its words lent.
+    pub fn lend(&self) -> Correction<'_>
+        ensures { asked result ≡ owned self.now }
+    {
+        Correction {
+            place: self.place,
+            struck: self.struck,
+            words: self.words.as_slice(),
+        }
+    }
+}
+
+// A bottom: a register of these readings, so many places of one reading, or a packed profile.
 #[derive(Drop)]
-pub enum Layer {
-    // A bottom: a register of these readings, so many places of one reading, or a packed profile.
+pub enum Bottom {
     Register(Vec<Interval>),
     Nominal { reading: Interval, length: u32 },
     Profile(Vec<u8>),
-    // A check over the bottom, or none.
-    Check { tag: u8, limit: u32 },
-    NoCheck,
+}
+
+// A check over the bottom.
+#[derive(Clone, Copy)]
+pub struct CheckLayer {
+    pub tag: u8,
+    pub limit: u32,
+}
+
+// What is to lie beneath the journals.
+#[derive(Drop)]
+pub enum Layer {
+    Bottom(Bottom),
+    // None takes the check away.
+    Check(Option<CheckLayer>),
 }
 
 // What is to be done to a journal.

@@ -1,9 +1,9 @@
 // The fields of a line, one after another.
-ghost use Rattle.std.specs.Prelude.{◌≡◌, ◌≤◌, length};
-ghost use Rattle.std.specs.Option.{option_map};
-ghost use Rattle.journal.specs.Walks.{next_of};
-ghost use Rattle.commands.specs.Coming.{gap, stretch, coming};
-ghost use Rattle.commands.specs.Fields.{separates, plain, all_plain, uncommented, fields};
+ghost use Rattle.std.specs.Prelude.{◌≡◌, ◌==◌, not, position};
+ghost use Rattle.std.specs.List.{list_all};
+ghost use Rattle.std.specs.Iterator.{YieldsFirstRef, item_count};
+ghost use Rattle.commands.specs.Coming.{coming};
+ghost use Rattle.commands.specs.Fields.{separates, plain, uncommented, fields};
 
 // What is left of a line before its comment.
 #[derive(Clone, Copy)]
@@ -22,57 +22,45 @@ fn is_separator(byte: u8) -> bool
 fn is_plain_byte(byte: u8) -> bool
     ensures { result ≡ plain byte }
 {
-    is_separator(byte) || b'!' <= byte && byte <= b'~'
+    is_separator(byte) || byte.is_ascii_graphic()
 }
 
 // Whether all bytes may stand before a comment.
 pub(crate) fn is_plain(bytes: &[u8]) -> bool
-    ensures { result ≡ all_plain bytes.now }
+    ensures { result ≡ list_all plain bytes.now }
 {
-    for byte in bytes {
-        if !is_plain_byte(*byte) {
-            return false;
-        }
-    }
-    true
+    bytes.iter().all(|byte| is_plain_byte(*byte))
+}
+
+// Where the line's comment begins.
+fn comment_start(line: &[u8]) -> Option<usize>
+    ensures { result ≡ position (λ b. b == 35) line.now }
+{
+    line.iter().position(|byte| *byte == b'#')
 }
 
 // What stands before the line's comment.
 pub(crate) fn before_comment(line: &[u8]) -> &[u8]
     ensures { result.now ≡ uncommented line.now }
 {
-    for (i, byte) in line.iter().enumerate() {
-        if *byte == b'#' {
-            return &line[0..i];
-        }
+    match comment_start(line) {
+        Some(start) => &line[..start],
+        None => line,
     }
-    line
 }
 
-// How many separators stand at the front.
-fn gap_length(bytes: &[u8]) -> usize
-    ensures value { result ≡ gap bytes.now }
-    ensures bound { result ≤ length bytes.now }
+// Where the first field begins.
+fn field_start(bytes: &[u8]) -> Option<usize>
+    ensures { result ≡ position (λ b. not (separates b)) bytes.now }
 {
-    for (i, byte) in bytes.iter().enumerate() {
-        if !is_separator(*byte) {
-            return i;
-        }
-    }
-    bytes.len()
+    bytes.iter().position(|byte| !is_separator(*byte))
 }
 
-// How many bytes stand before the first separator.
-fn stretch_length(bytes: &[u8]) -> usize
-    ensures value { result ≡ stretch bytes.now }
-    ensures bound { result ≤ length bytes.now }
+// Where the first separator stands.
+fn first_separator(bytes: &[u8]) -> Option<usize>
+    ensures { result ≡ position separates bytes.now }
 {
-    for (i, byte) in bytes.iter().enumerate() {
-        if is_separator(*byte) {
-            return i;
-        }
-    }
-    bytes.len()
+    bytes.iter().position(|byte| is_separator(*byte))
 }
 
 impl<'a> Fields<'a> {
@@ -82,18 +70,22 @@ impl<'a> Fields<'a> {
     {
         Fields { rest }
     }
+}
 
-    // The next field; None once the last one has been handed out.
-    pub(crate) fn next_field(&mut self) -> Option<&'a [u8]>
-        ensures { (option_map (λ x. x.now) result, coming self.new) ≡ next_of (coming self.old) }
-    {
-        let rest = self.rest;
-        let front = &rest[gap_length(rest)..];
-        let end = stretch_length(front);
-        self.rest = &front[end..];
-        if end == 0 {
-            return None;
-        }
-        Some(&front[0..end])
+impl<'a> Iterator for Fields<'a> {
+    type Item = &'a [u8];
+
+    ghost next_gives = { YieldsFirstRef coming };
+
+    ghost remaining = { item_count coming };
+
+    // None once the last field has been handed out, and ever after.
+    fn next(&mut self) -> Option<&'a [u8]> {
+        let start = field_start(self.rest)?;
+        let front = &self.rest[start..];
+        let end = first_separator(front).unwrap_or(front.len());
+        let (field, rest) = front.split_at(end);
+        self.rest = rest;
+        Some(field)
     }
 }

@@ -2,7 +2,6 @@
 #![tactic(auto)]
 
 mod arguments;
-mod building;
 pub mod command;
 mod drafts;
 mod fields;

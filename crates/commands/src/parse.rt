@@ -1,5 +1,4 @@
 // From a line to a command.
-ghost use Rattle.std.specs.Prelude.{◌≡◌, nat_lt};
 ghost use Rattle.commands.specs.Arguments.{Reads};
 ghost use Rattle.commands.specs.Coming.{coming};
 ghost use Rattle.commands.specs.Commands.{by_command};
@@ -14,19 +13,12 @@ use crate::verbs::verb_of;
 use crate::wrong::{ParseFault, Wrong};
 use std::alloc::Global;
 
-// The most bytes of a line.
-const MOST_BYTES: usize = 65536;
-
-// Whether a line of so many bytes is too long.
-fn is_too_long(count: usize) -> bool
-    ensures { result ≡ nat_lt 65536 count }
-{
-    count > MOST_BYTES
-}
+// A line has at most this many bytes, without its line feed.
+pub const MOST_BYTES: usize = 65536;
 
 // The command of this verb, by the fields after its name.
-fn read_arguments(heap: Global, verb: Verb, fields: &mut Fields<'_>) -> Result<Command, ParseFault>
-    ensures { Reads by_command result (arguments_in verb (coming fields.old)) }
+fn read_arguments(heap: Global, verb: Verb, fields: Fields<'_>) -> Result<Command, ParseFault>
+    ensures { Reads by_command result (arguments_in verb (coming fields.entry)) }
 {
     match verb {
         Verb::Plain(plain) => read_plain(plain, fields),
@@ -37,33 +29,31 @@ fn read_arguments(heap: Global, verb: Verb, fields: &mut Fields<'_>) -> Result<C
 }
 
 // The command that these fields are; None where there are none.
-fn read_command(heap: Global, fields: &mut Fields<'_>) -> Result<Option<Command>, ParseFault>
-    ensures { Parses result (command_in (coming fields.old)) }
+fn read_command(heap: Global, mut fields: Fields<'_>) -> Result<Option<Command>, ParseFault>
+    ensures { Parses result (command_in (coming fields.entry)) }
 {
-    let Some(name) = fields.next_field() else {
+    let Some(name) = fields.next() else {
         return Ok(None);
     };
     let Some(verb) = verb_of(name) else {
         return Err(ParseFault::Wrong(Wrong::NoSuchCommand));
     };
-    match read_arguments(heap, verb, fields) {
-        Ok(command) => Ok(Some(command)),
-        Err(fault) => Err(fault),
-    }
+    let command = read_arguments(heap, verb, fields)?;
+    Ok(Some(command))
 }
 
 // The command of a line without its line feed; None where the line has no fields. Refuses, in this order, with
 // LineTooLong, StrayByte, NoSuchCommand, BadArguments; NoMemory only where there are fields.
+#[tactic(auto, using(crate::proofs::Stretches::all_plain_is))]
 pub fn parse(heap: Global, line: &[u8]) -> Result<Option<Command>, ParseFault>
     ensures { Parses result (parsed line.now) }
 {
-    if is_too_long(line.len()) {
+    if line.len() > MOST_BYTES {
         return Err(ParseFault::Wrong(Wrong::LineTooLong));
     }
     let text = before_comment(line);
     if !is_plain(text) {
         return Err(ParseFault::Wrong(Wrong::StrayByte));
     }
-    let mut fields = Fields::of(text);
-    read_command(heap, &mut fields)
+    read_command(heap, Fields::of(text))
 }

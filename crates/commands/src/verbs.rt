@@ -1,23 +1,11 @@
-// The commands by their names, and the limits of each one's numbers.
+// The commands by their names.
 ghost use Rattle.std.specs.Prelude.{◌≡◌, map, codes};
 ghost use Rattle.commands.specs.Parsing.{keeps};
-ghost use Rattle.commands.specs.Verbs.{same, named, verb, plain_limits, words_limits, bytes_limits};
+ghost use Rattle.commands.specs.Verbs.{same, named, verb};
 
 use crate::verb::{BytesVerb, PlainVerb, Verb, WordsVerb};
 
-// The greatest number of a journal.
-pub(crate) const JOURNALS: u64 = 3;
-
-// The greatest tag.
-const TAGS: u64 = 255;
-
-// The greatest place, count, length or limit.
-pub(crate) const PLACES: u64 = 4294967295;
-
-// The greatest word.
-const WORDS: u64 = 18446744073709551615;
-
-// Each command by its name.
+// Each command by its name. A table, since a `match` on 24 byte strings leaves the prover some 90 ways open.
 const SPELLED: [(&[u8], Verb); 24] = [
     (b"register", Verb::Words(WordsVerb::Register)),
     (b"nominal", Verb::Plain(PlainVerb::Nominal)),
@@ -79,52 +67,5 @@ pub(crate) fn keep_of(field: &[u8]) -> Option<bool>
         b"keep" => Some(true),
         b"drop" => Some(false),
         _ => None,
-    }
-}
-
-// The greatest value of each number that a command takes, in their order.
-pub(crate) fn plain_limits(verb: PlainVerb) -> &'static [u64]
-    ensures { result.now ≡ plain_limits verb }
-{
-    match verb {
-        PlainVerb::Nominal => &[WORDS, PLACES],
-        PlainVerb::Check => &[TAGS, PLACES],
-        PlainVerb::NoCheck => &[],
-        PlainVerb::Start => &[JOURNALS, PLACES],
-        PlainVerb::Strike => &[JOURNALS, PLACES, PLACES],
-        PlainVerb::Tidy => &[JOURNALS],
-        PlainVerb::Fold => &[JOURNALS, JOURNALS, JOURNALS],
-        PlainVerb::Pieces => &[JOURNALS],
-        PlainVerb::Words => &[JOURNALS],
-        PlainVerb::Length => &[JOURNALS],
-        PlainVerb::Fits => &[JOURNALS],
-        PlainVerb::Origin => &[JOURNALS, PLACES],
-        PlainVerb::Read => &[JOURNALS, TAGS, PLACES],
-        PlainVerb::Pile => &[JOURNALS, JOURNALS, PLACES],
-        PlainVerb::Flatten => &[JOURNALS, TAGS],
-        PlainVerb::Walk => &[JOURNALS],
-    }
-}
-
-// The same for the numbers before a command's words.
-pub(crate) fn words_limits(verb: WordsVerb) -> &'static [u64]
-    ensures { result.now ≡ words_limits verb }
-{
-    match verb {
-        WordsVerb::Register => &[],
-        WordsVerb::Enter => &[JOURNALS, PLACES],
-        WordsVerb::Replace => &[JOURNALS, PLACES, PLACES],
-        WordsVerb::Record => &[PLACES, PLACES],
-    }
-}
-
-// The same for the numbers before a command's bytes.
-pub(crate) fn bytes_limits(verb: BytesVerb) -> &'static [u64]
-    ensures { result.now ≡ bytes_limits verb }
-{
-    match verb {
-        BytesVerb::Profile => &[],
-        BytesVerb::Batch => &[JOURNALS],
-        BytesVerb::Unrecord => &[],
     }
 }

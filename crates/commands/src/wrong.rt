@@ -23,6 +23,9 @@ pub enum ParseFault {
     NoMemory,
 }
 
+// The fields are not what the command takes.
+pub(crate) const BAD_ARGUMENTS: ParseFault = ParseFault::Wrong(Wrong::BadArguments);
+
 impl From<AllocError> for ParseFault {
     ghost from_gives = { λ _ fault. fault ≡ no_memory };
 

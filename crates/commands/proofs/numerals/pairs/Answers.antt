@@ -1,34 +1,20 @@
-use Rattle.std.proofs.Common.{◌≡◌, ◌≤◌, length, vec_items, ◌∙◌, arith, rules}
-use Rattle.std.proofs.lemmas.Bool.Decides.{nat_tests}
-use Rattle.commands.proofs.Hex.{behind_none, behind_more, behind_stop, behind_all, behind_odd}
+use Rattle.std.proofs.Common.{◌≡◌, ℕ, ◌++◌, take, drop, length, Some, ap, sym, ◌∙◌}
+use Rattle.std.proofs.Math.Seq.{take-append_seam}
+use Rattle.commands.proofs.Hex.{read_all, read_none, result_ok-decode_sized}
 use Rattle.commands.proofs.numerals.pairs.Goals as goal
 
-pub loop-rest-init : goal.loop-rest-init
-loop-rest-init c = behind_none _ _ c.new-bytes.ensures.items
+pub returns-in-Ok : goal.returns-in-Ok
+returns-in-Ok c =
+    let out = c.decode_to_slice.new.out in
+    let size = c.deref_mut.ensures.len in
+    let full : c.in_ok-bytes.bytes.len ≡ length out = sym (c.decode_to_slice.auto.out ∙ size) in
+    let rest = drop (length out) c.in_ok-bytes.bytes.items in
+    let all = read_all _ _ _ c.decode_to_slice.ensures.value c.in-Ok.is in
+    ap Some (ap (λ (n : ℕ). take n (out ++ rest)) full ∙ take-append_seam out rest)
+    ∙ all
+    ∙ rw (size, c.in_ok-bytes.ensures.len) (result_ok-decode_sized c.args.field.now)
 
-pub returns-in-None : goal.returns-in-None
-returns-in-None c =
-    let rest = c.loop-rest.rest.now in
-    let h : 2 ≤ length rest = search rules in
-    behind_stop (vec_items c.loop-rest.bytes) rest h c.in-None.ensures ∙ c.loop-rest.invariant
-
-pub loop-rest-preserved : goal.loop-rest-preserved
-loop-rest-preserved c =
-    let rest = c.loop-rest.rest.now in
-    let h : 2 ≤ length rest = search rules in
-    rw c.in_ok-push-in-Some.ensures.items
-    (behind_more (vec_items c.loop-rest.bytes) rest c.in-Some.b h c.in-Some.ensures ∙ c.loop-rest.invariant)
-
-pub returns-then-is_empty : goal.returns-then-is_empty
-returns-then-is_empty c =
-    let rest = c.loop-rest.rest.now in
-    let e = c.if-is_empty.ensures in
-    let h : length rest ≡ 0 = grind (arith, nat_tests) in
-    behind_all (vec_items c.loop-rest.bytes) rest h ∙ c.loop-rest.invariant
-
-pub returns-else-is_empty : goal.returns-else-is_empty
-returns-else-is_empty c =
-    let rest = c.loop-rest.rest.now in
-    let e = c.if-is_empty.ensures in
-    let h : length rest ≡ 1 = grind (arith, nat_tests) in
-    behind_odd (vec_items c.loop-rest.bytes) rest h ∙ c.loop-rest.invariant
+pub returns-in-Err : goal.returns-in-Err
+returns-in-Err c =
+    let none = read_none _ _ _ _ c.decode_to_slice.ensures.value c.in-Err.is in
+    none ∙ rw (c.deref_mut.ensures.len, c.in_ok-bytes.ensures.len) (result_ok-decode_sized c.args.field.now)
