@@ -1,17 +1,15 @@
 -- The answers of a draft's corrections, as their text grows.
 -- added: an answer more behind a text, with the separator where the text has one already.
 -- grown: the text when these answers too are added.
-use Rattle.std.proofs.Common.{◌≡◌, ℕ, ◌+◌, ◌<◌, ◌≤◌, Bool, true, false, cond, eqb, List, [], ◌∷◌, ◌++◌, map, length, get_or, drop, Ok, Err, vec_items, codes, Result, sym, refl, ap, ◌∙◌}
+use Rattle.std.proofs.Common.{◌≡◌, ℕ, ◌+◌, ◌<◌, ◌≤◌, cond, eqb, List, [], ◌∷◌, ◌++◌, map, length, get_or, drop, Ok, Err, vec_items, codes, Result, sym, refl, ap, ◌∙◌}
 use lib.Dec.{eqb-suc-zero}
 use Rattle.std.specs.List.{flat_map}
 use Rattle.std.proofs.lemmas.List.{append-nil, append_assoc, at_drop_more, at_drop_all}
-use Rattle.journal.specs.declared.journal.Journal.{Journal}
-use Rattle.journal.specs.Journals.{state}
-use Rattle.journal.specs.Machine.{State, Correction, correction, outcome, check, corrected, corrected_all}
+use Rattle.journal.specs.Machine.{State, correction, outcome, check, corrected, corrected_all}
 use Rattle.commands.specs.declared.command.OwnedCorrection.{OwnedCorrection}
 use Rattle.commands.specs.Commands.{owned}
 use Rattle.answers.specs.Texts.{ok_text, answer_text, separated}
-use Rattle.answers.specs.Changes.{draft_answers, kept_text}
+use Rattle.answers.specs.Changes.{draft_answers}
 
 abbrev added : List ℕ → Result ℕ ℕ → List ℕ
 added bs x = bs ++ (cond (eqb (length bs) 0) (codes "") (codes ", ") ++ answer_text ok_text x)
@@ -70,22 +68,3 @@ left_all st first bs cs i h e =
 pub turns_all : (st first : State ℕ) (cs : List OwnedCorrection) (i : ℕ) → length cs ≤ i
     → corrected_all st (map owned (drop i cs)) ≡ corrected_all first (map owned cs) → st ≡ corrected_all first (map owned cs)
 turns_all st first cs i h e = sym (at_drop_all (λ (l : List OwnedCorrection). corrected_all st (map owned l)) cs i h) ∙ e
-
--- a draft that was opened on a journal: its text with the ending, and the state that it leaves
-module _ (keep : Bool) (opened entry : Journal) (same : opened ≡ entry) (cs : List (Correction ℕ)) where
-  pub ended_text : (bs answers ending : List ℕ) → bs ≡ answers ++ ending
-      → answers ≡ separated (codes ", ") (answer_text ok_text) (draft_answers (state opened) cs) → ending ≡ kept_text keep
-      → bs ≡ separated (codes ", ") (answer_text ok_text) (draft_answers (state entry) cs) ++ kept_text keep
-  ended_text bs answers ending e told kept =
-      e
-      ∙ (λ i. told i ++ kept i)
-      ∙ ap (λ (j : Journal). separated (codes ", ") (answer_text ok_text) (draft_answers (state j) cs) ++ kept_text keep) same
-
-  pub ended-state : (exit : State ℕ) (after before : Journal) → exit ≡ state (cond keep after before) → state after ≡ corrected_all (state opened) cs → before ≡ entry
-      → exit ≡ cond keep (corrected_all (state entry) cs) (state entry)
-  ended-state exit after before e kept dropped =
-      e
-      ∙ elim keep as (λ b. state (cond b after before) ≡ cond b (corrected_all (state entry) cs) (state entry)) [
-        | true ↦ kept ∙ ap (λ (j : Journal). corrected_all (state j) cs) same
-        | false ↦ ap state dropped
-      ]

@@ -1,4 +1,4 @@
 mod Drafts
 pub mod Separated
-mod Walked
 mod RecordBytes
+mod Hex

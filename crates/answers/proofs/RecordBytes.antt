@@ -1,23 +1,14 @@
 -- The bytes of records as text.
-use Rattle.std.proofs.Common.{◌≡◌, ℕ, ◌-◌, ◌<◌, ◌≤◌, Bool, true, false, cond, eqb, ltb, List, [], ◌∷◌, ◌++◌, length, take, drop, is_ok, Ok, Err, Result, refl, ap, ◌∙◌, arith}
-use Rattle.std.proofs.lemmas.List.{take_at}
+use Rattle.std.proofs.Common.{◌≡◌, ℕ, ◌≤◌, Bool, true, false, cond, eqb, ltb, List, [], ◌++◌, length, drop, is_ok, Ok, Err, Result, refl, ap, arith}
 use Rattle.std.proofs.lemmas.Bool.{ltb-false, ltb-true}
 use Rattle.series.specs.Numbers.{bytes_of}
 use Rattle.journal.specs.Machine.{Correction}
 use Rattle.records.specs.Records.{written, write_outcome}
 use Rattle.records.proofs.Fields.{length-words}
 use Rattle.records.proofs.RoundTrips.{length-written}
-use Rattle.answers.specs.Texts.{refused_text, hex_digit, hex_text}
+use Rattle.answers.specs.Texts.{hex_text}
+use Rattle.series.specs.Refusals.{refusal_text}
 use Rattle.answers.specs.Views.{write_text}
-
-digit_ascii : (v : ℕ) → v < 16 → hex_digit v < 128
-digit_ascii v h = grind arith
-
--- a digit was added, as the one byte that it is
-pub digit_added : (v x : ℕ) (e s t : List ℕ) → v < 16 → x ≡ hex_digit v → (x < 128 → e ≡ x ∷ []) → t ≡ s ++ e → t ≡ s ++ (hex_digit v ∷ [])
-digit_added v x e s t h is ascii p =
-    let below : x < 128 = omega (arith, is, digit_ascii v h) in
-    p ∙ ap (λ (l : List ℕ). s ++ l) (ascii below) ∙ ap (λ (y : ℕ). s ++ (y ∷ [])) is
 
 -- ---- a record written to a buffer
 
@@ -48,31 +39,18 @@ answered many short n = cond many (Err 3) (cond short (Err 10) (Ok n))
 abbrev buffer : Bool → Bool → ℕ → List ℕ → List ℕ → List ℕ
 buffer many short n bs out = cond (is_ok (answered many short n)) (bs ++ drop n out) out
 
-ok_by : (many short : Bool) (size n : ℕ) (bs out after : List ℕ) → length bs ≡ n → Ok size ≡ answered many short n → after ≡ buffer many short n bs out
-    → hex_text (take (size - 0) after) ≡ cond many (refused_text 3) (hex_text bs)
-ok_by true short size n bs out after l e p = let z : ◌≡◌ {A = ℕ} 0 1 = cc in absurd (omega arith)
-ok_by false true size n bs out after l e p = let z : ◌≡◌ {A = ℕ} 0 1 = cc in absurd (omega arith)
-ok_by false false size n bs out after l e p =
-    let same : size ≡ n = cc in
-    let long : length bs ≡ size - 0 = omega arith in
-    ap (λ (a : List ℕ). hex_text (take (size - 0) a)) p ∙ ap hex_text (take_at bs (drop n out) (size - 0) long)
-
 err_by : (many short : Bool) (d n : ℕ) (text : List ℕ) → (many ≡ false → short ≡ true → ⊥) → Err d ≡ answered many short n
-    → refused_text d ≡ cond many (refused_text 3) text
+    → refusal_text d ≡ cond many (refusal_text 3) text
 err_by true short d n text never e =
-    let three : d ≡ 3 = cc in ap refused_text three
+    let three : d ≡ 3 = cc in ap refusal_text three
 err_by false true d n text never e = absurd (never refl refl)
 err_by false false d n text never e = let z : ◌≡◌ {A = ℕ} 0 1 = cc in absurd (omega arith)
 
 module _ (c : Correction ℕ) (out after : List ℕ) where
   -- the front of the buffer is the record's bytes
-  pub written-hex : (size : ℕ) → (Ok size, after) ≡ write_outcome c out → hex_text (take (size - 0) after) ≡ write_text c
-  written-hex size e =
-      ok_by (ltb 1024 (length c.enters)) (ltb (length out) (length (written c))) size (length (written c)) (written c) out after refl
-      (ap (λ (p : Result ℕ ℕ × List ℕ). p.0) e) (ap (λ (p : Result ℕ ℕ × List ℕ). p.1) e)
 
   -- in a buffer with room for any record, only too many words are refused
-  pub written-refused : (d : ℕ) → 8203 ≤ length out → (Err d, after) ≡ write_outcome c out → refused_text d ≡ write_text c
+  pub written-refused : (d : ℕ) → 8203 ≤ length out → (Err d, after) ≡ write_outcome c out → refusal_text d ≡ write_text c
   written-refused d room e =
       err_by (ltb 1024 (length c.enters)) (ltb (length out) (length (written c))) d (length (written c)) (hex_text (written c))
       (λ few short. omega (arith, ltb-true (length out) (length (written c)) short, written-few c (ltb-false 1024 (length c.enters) few)))

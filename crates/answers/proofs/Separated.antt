@@ -1,8 +1,9 @@
 -- A text as it grows by the texts of some things in turn.
 -- Grown: the text has what it had, and the texts of the first so many.
-use Rattle.std.proofs.Common.{◌≡◌, ℕ, ◌+◌, ◌-◌, ◌<◌, ◌≤◌, List, [], ◌∷◌, ◌++◌, length, get_or, take, drop, sym, ap, ◌∙◌, ap₂, arith}
+use Rattle.std.proofs.Common.{◌≡◌, ℕ, Option, ◌+◌, ◌-◌, ◌<◌, ◌≤◌, List, [], ◌∷◌, ◌++◌, length, get_or, take, drop, sym, ap, ◌∙◌, ap₂, arith}
 use Rattle.std.specs.List.{flat_map}
 use Rattle.std.proofs.lemmas.List.{append_assoc, flat_map_more, take_more, take_all}
+use Rattle.answers.specs.Shown.{Shows}
 use Rattle.answers.specs.Texts.{listed}
 
 module _ {A : Type 0} (f : A → List ℕ) (before : List ℕ) (xs : List A) where
@@ -18,9 +19,9 @@ module _ {A : Type 0} (f : A → List ℕ) (before : List ℕ) (xs : List A) whe
   pub grown_all : (i : ℕ) (text : List ℕ) → length xs ≤ i → Grown i text → text ≡ before ++ flat_map f xs
   grown_all i text h g = g ∙ ap (λ (l : List A). before ++ flat_map f l) (take_all i xs h)
 
--- a text added to none
-pub added_first : (s t a : List ℕ) → s ≡ [] → t ≡ s ++ a → t ≡ a
-added_first s t a p q = q ∙ ap (λ (l : List ℕ). l ++ a) p
+-- the same of things that print themselves, each behind a separator, whatever text each prints
+abbrev pub GrownEach : {T : Type 0} → (T → Option (List ℕ)) → List ℕ → List ℕ → List T → ℕ → List ℕ → Type 0
+GrownEach {T} output separator before xs i text = (shown : T → List ℕ) → Shows output shown → Grown (λ x. separator ++ shown x) before xs i text
 
 -- two texts added one after the other
 pub added_two : (s t u a b : List ℕ) → t ≡ s ++ a → u ≡ t ++ b → u ≡ s ++ (a ++ b)

@@ -9,14 +9,14 @@ use Rattle.journal.specs.Journals.{begun}
 use Rattle.journal.specs.Pieces.{gathered}
 use Rattle.journal.specs.Tidied.{tidied}
 use Rattle.records.specs.Batches.{batch_outcome}
-use Rattle.listing.specs.Refusals.{record_text}
+use Rattle.records.specs.Faults.{fault_text}
 use Rattle.commands.specs.Commands.{Change, begin, correct, batch, draft, tidy}
 use Rattle.answers.specs.Texts.{ok_text, answer_text, separated}
 
 -- ok and how many records; or the refusal, with the record where one is known
 abbrev pub batch_text : Result ℕ (ℕ × Option ℕ) → List ℕ
 batch_text (Ok n) = ok_text n
-batch_text (Err f) = codes "refused " ++ (decimal f.0 ++ record_text f.1)
+batch_text (Err f) = fault_text f
 
 abbrev pub draft_answers : State ℕ → List (Correction ℕ) → List (Result ℕ ℕ)
 draft_answers st [] = []

@@ -1,3 +1,4 @@
 pub mod Texts
 pub mod Changes
 pub mod Views
+pub mod Shown

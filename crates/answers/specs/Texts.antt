@@ -1,5 +1,6 @@
 -- The words of the console's answers.
--- ok_text, refused_text: ok, or the word refused, and a number.
+-- ok_before: ok and a text.
+-- ok_text: ok and a number.
 -- answer_text: what an answer's value prints, or its refusal.
 -- separated: the texts of some things, with a separator between.
 -- listed: the same, or the word none where there is none.
@@ -7,16 +8,17 @@
 -- Assumes nothing.
 use Rattle.std.specs.Prelude.{ℕ, ◌+◌, ◌/◌, ◌%◌, cond, List, [], ◌∷◌, ◌++◌, Ok, Err, codes, decimal, Result, nat_lt}
 use Rattle.std.specs.List.{flat_map}
+use Rattle.series.specs.Refusals.{refusal_text}
+
+abbrev pub ok_before : List ℕ → List ℕ
+ok_before text = codes "ok " ++ text
 
 abbrev pub ok_text : ℕ → List ℕ
-ok_text n = codes "ok " ++ decimal n
-
-abbrev pub refused_text : ℕ → List ℕ
-refused_text n = codes "refused " ++ decimal n
+ok_text n = ok_before (decimal n)
 
 abbrev pub answer_text : {A : Type 0} → (A → List ℕ) → Result A ℕ → List ℕ
 answer_text text (Ok x) = text x
-answer_text text (Err n) = refused_text n
+answer_text text (Err n) = refusal_text n
 
 abbrev pub separated : {A : Type 0} → List ℕ → (A → List ℕ) → List A → List ℕ
 separated separator text [] = []

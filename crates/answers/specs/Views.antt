@@ -6,29 +6,15 @@
 use Rattle.std.specs.Prelude.{ℕ, cond, List, ◌++◌, length, codes, decimal, nat_lt}
 use Rattle.std.specs.List.{flat_map}
 use Rattle.series.specs.Lists.{nth}
-use Rattle.journal.specs.declared.piece.Piece.{Piece}
-use Rattle.journal.specs.declared.piece.Source.{Source}
-use Rattle.journal.specs.declared.piece.Source.TheVariants.{Kept, Entered}
-use Rattle.journal.specs.Machine.{State, Correction, Answer, place, word, answers}
+use Rattle.series.specs.Refusals.{refusal_text}
+use Rattle.journal.specs.Machine.{State, Correction, answers}
 use Rattle.journal.specs.Pieces.{gathered}
+use Rattle.journal.specs.Texts.{origin_text, piece_text}
 use Rattle.journal.specs.Runs.{Run, kept_run, entered_run, runs}
 use Rattle.records.specs.Records.{written, read_record}
 use Rattle.commands.specs.declared.command.View.{View}
 use Rattle.commands.specs.declared.command.View.TheVariants.{Pieces, Words, Length, Walk, Origin}
-use Rattle.answers.specs.Texts.{refused_text, answer_text, listed, hex_text}
-
-abbrev pub source_text : Source → List ℕ
-source_text Kept = codes "k"
-source_text Entered = codes "e"
-
--- kind, first and count, as k0+2
-abbrev pub piece_text : Piece → List ℕ
-piece_text p = source_text p.source ++ (decimal p.first ++ (codes "+" ++ decimal p.count))
-
--- b and the base place, or e and the word
-abbrev pub origin_text : Answer ℕ → List ℕ
-origin_text (place m) = codes "b" ++ decimal m
-origin_text (word w) = codes "e" ++ decimal w
+use Rattle.answers.specs.Texts.{answer_text, listed, hex_text}
 
 -- each word with a blank before it
 abbrev pub words_text : List ℕ → List ℕ
@@ -47,7 +33,7 @@ view_text st (Origin p) = answer_text origin_text (nth (answers st) p)
 
 -- refusal 3 for more than 1,024 words
 abbrev pub write_text : Correction ℕ → List ℕ
-write_text c = cond (nat_lt 1024 (length c.enters)) (refused_text 3) (hex_text (written c))
+write_text c = cond (nat_lt 1024 (length c.enters)) (refusal_text 3) (hex_text (written c))
 
 -- place, count, words, and the bytes used
 abbrev pub read_text : Correction ℕ × ℕ → List ℕ

@@ -1,6 +1,7 @@
 // Changes of a journal, each with the text of its answer.
 ghost use Rattle.std.specs.Prelude.{◌≡◌, true, ◌++◌, map, length as count, is_err, IfOk, if◌then◌else◌, string_bytes, codes, OnOk, nat_eq};
 ghost use Rattle.series.specs.Refusals.{by_number, with_ok};
+ghost use Rattle.journal.specs.Drafts.{Continues};
 ghost use Rattle.journal.specs.Journals.{state, begun};
 ghost use Rattle.journal.specs.Machine.{corrected_all};
 ghost use Rattle.journal.specs.Tidied.{tidied};
@@ -9,7 +10,7 @@ ghost use Rattle.commands.specs.Commands.{owned, by_change};
 ghost use Rattle.answers.specs.Texts.{ok_text, answer_text, separated};
 ghost use Rattle.answers.specs.Changes.{batch_text, draft_answers, kept_text, tidy_text, changed};
 
-use crate::told::{BatchText, LengthText};
+use crate::texts::{Accepted, Answer, length_text};
 use commands::command::{Change, OwnedCorrection};
 use journal::draft::Draft;
 use journal::journal::Journal;
@@ -17,23 +18,12 @@ use records::batch::batch;
 use series::refusal::Refusal;
 use std::alloc::{AllocError, Global};
 
-// The text of a correction's answer.
-fn length_text(heap: Global, answer: Result<u32, Refusal>) -> Result<String, AllocError>
-    ensures { IfOk result (λ text. string_bytes text ≡ answer_text ok_text (by_number answer)) }
-{
-    let answer = LengthText(answer);
-    format!(in heap; "{answer}")
-}
-
 // Starts a journal for so many places.
 fn start(heap: Global, journal: &mut Journal, length: u32) -> Result<String, AllocError>
     ensures text { IfOk result (λ text. string_bytes text ≡ answer_text ok_text (with_ok (λ _. length) (begun (state journal.old) length).0)) }
     ensures state { state journal.new ≡ (begun (state journal.old) length).1 }
 {
-    match journal.start(length) {
-        Ok(()) => length_text(heap, Ok(length)),
-        Err(refusal) => length_text(heap, Err(refusal)),
-    }
+    length_text(heap, journal.start(length).map(|()| length))
 }
 
 // Makes the records of a batch in turn.
@@ -41,8 +31,7 @@ fn make_batch(heap: Global, journal: &mut Journal, bytes: &[u8]) -> Result<Strin
     ensures text { IfOk result (λ text. string_bytes text ≡ batch_text (batch_outcome (state journal.old) bytes.now).0) }
     ensures state { state journal.new ≡ (batch_outcome (state journal.old) bytes.now).1 }
 {
-    let answer = BatchText(batch(journal, bytes));
-    format!(in heap; "{answer}")
+    format!(in heap; "{}", Answer(batch(journal, bytes).map(Accepted)))
 }
 
 // Tidies a journal.
@@ -51,9 +40,7 @@ fn tidy(heap: Global, journal: &mut Journal) -> Result<String, AllocError>
     ensures state { state journal.new ≡ tidied (state journal.old) }
 {
     journal.tidy();
-    let pieces = journal.pieces().len();
-    let words = journal.words().len();
-    format!(in heap; "ok {pieces} {words}")
+    format!(in heap; "ok {} {}", journal.pieces().len(), journal.words().len())
 }
 
 // Adds a correction's answer to those before it.
@@ -61,8 +48,7 @@ fn push_answer(text: &mut String, answer: Result<u32, Refusal>) -> Result<(), Al
     ensures { OnOk result (string_bytes text.new ≡ string_bytes text.old ++ ((if nat_eq (count (string_bytes text.old)) 0 then codes "" else codes ", ") ++ answer_text ok_text (by_number answer))) }
 {
     let separator = if text.is_empty() { "" } else { ", " };
-    let answer = LengthText(answer);
-    write!(text, "{separator}{answer}")
+    write!(text, "{separator}{}", Answer(answer.map(Accepted)))
 }
 
 // Makes corrections in a draft in turn, a refused one passed over, and tells what each answers.
@@ -73,8 +59,7 @@ fn correct_all(
 ) -> Result<String, AllocError>
     ensures text { IfOk result (λ text. string_bytes text ≡ separated (codes ", ") (answer_text ok_text) (draft_answers (state draft.old.journal.now) (map owned corrections.now))) }
     ensures state { OnOk result (state draft.new.journal.now ≡ corrected_all (state draft.old.journal.now) (map owned corrections.now)) }
-    ensures before { draft.new.before ≡ draft.old.before }
-    ensures follows { draft.new.journal.ghost_name ≡ draft.old.journal.ghost_name }
+    ensures continues { Continues draft.old draft.new }
 {
     let mut text = String::new(heap);
     for c in corrections {
@@ -84,20 +69,13 @@ fn correct_all(
     Ok(text)
 }
 
-// Keeps a draft or lets it go.
+// Keeps a draft or lets it go. A function of its own, since a draft that is moved on one path alone has to end there.
 fn end_draft(draft: Draft<'_>, keep: bool)
     ensures { draft.exit.0.now ≡ (if keep then draft.entry.journal.now else draft.entry.before) }
 {
     if keep {
         draft.keep();
     }
-}
-
-// How the text of a draft ends.
-fn ending(keep: bool) -> &'static str
-    ensures { result.now ≡ kept_text keep }
-{
-    if keep { " kept" } else { " dropped" }
 }
 
 // Makes corrections in a draft, and keeps it or lets it go.
@@ -113,7 +91,7 @@ fn make_draft(
     let mut draft = Draft::open(journal);
     let mut text = correct_all(heap, &mut draft, corrections)?;
     end_draft(draft, keep);
-    text.push_str(ending(keep))?;
+    text.push_str(if keep { " kept" } else { " dropped" })?;
     Ok(text)
 }
 

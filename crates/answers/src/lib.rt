@@ -3,6 +3,5 @@
 
 pub mod changes;
 pub mod record_texts;
-mod texts;
-pub mod told;
+pub mod texts;
 pub mod views;

@@ -1,4 +1,5 @@
 use Rattle.std.proofs.Common.{◌≡◌, [], map, drop, string_bytes}
+use Rattle.journal.specs.Drafts.{Continues}
 use Rattle.journal.specs.Journals.{state}
 use Rattle.journal.specs.Machine.{corrected_all}
 use Rattle.commands.specs.Commands.{owned}
@@ -11,5 +12,4 @@ invariant-loop-c l =
     ≡ left (state l.initial.draft.journal.now) [] l.corrections)
     × (corrected_all (state l.draft.journal.now) (map owned (drop l.c-index l.corrections))
     ≡ corrected_all (state l.initial.draft.journal.now) (map owned l.corrections))
-    × (l.draft.before ≡ l.initial.draft.before)
-    × (l.draft.journal.ghost_name ≡ l.initial.draft.journal.ghost_name)
+    × Continues l.initial.draft l.draft
