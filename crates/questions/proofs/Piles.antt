@@ -12,7 +12,7 @@ use Rattle.pile.specs.declared.laid.Laid.{Laid}
 use Rattle.pile.specs.LaidCells.{laid_on, laid_cells}
 use Rattle.listing.specs.Lines.{cell_text}
 use Rattle.answers.specs.Texts.{answer_text}
-use Rattle.answers.specs.Views.{origin_text}
+use Rattle.journal.specs.Texts.{origin_text}
 use Rattle.questions.specs.Questions.{pile_text}
 
 -- what a place is followed down to, and its cell

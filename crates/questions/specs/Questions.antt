@@ -18,8 +18,9 @@ use Rattle.folding.specs.Piles.{down}
 use Rattle.listing.specs.Lines.{cell_text}
 use Rattle.commands.specs.declared.command.Question.{Question}
 use Rattle.commands.specs.declared.command.Question.TheVariants.{Fits, Read, Flatten}
-use Rattle.answers.specs.Texts.{refused_text, answer_text, ok_text, separated}
-use Rattle.answers.specs.Views.{origin_text}
+use Rattle.series.specs.Refusals.{refusal_text}
+use Rattle.answers.specs.Texts.{answer_text, ok_text, separated}
+use Rattle.journal.specs.Texts.{origin_text}
 use Rattle.questions.specs.declared.inquiry.Inquiry.{Inquiry}
 use Rattle.questions.specs.declared.inquiry.Inquiry.TheVariants as inquiry
 
@@ -35,7 +36,7 @@ readings_text (x ∷ xs) = codes ": " ++ separated (codes " ") reading_text (x �
 -- how many readings there are, and these; or the place without one, and its fault
 abbrev pub ending_text : List Interval → Result ℕ Stop → List ℕ
 ending_text xs (Ok n) = ok_text n ++ readings_text xs
-ending_text xs (Err (refused n)) = refused_text n
+ending_text xs (Err (refused n)) = refusal_text n
 ending_text xs (Err (fault_at p f)) = codes "refused " ++ (decimal p ++ (codes ": " ++ cell_text (Fault f)))
 
 abbrev pub flatten_text : List (Cell Interval) → List ℕ

@@ -15,9 +15,9 @@ use Rattle.series.specs.Refusals.{with_ok}
 use Rattle.profile.specs.Profiles.{open_profile}
 use Rattle.commands.specs.Commands.{Layer, register, nominal, profile, check, nocheck}
 use Rattle.answers.specs.Texts.{answer_text, ok_text}
-use Rattle.questions.specs.declared.beneath.Bottom.{Bottom}
-use Rattle.questions.specs.declared.beneath.Bottom.TheVariants as bottom
-use Rattle.questions.specs.declared.beneath.CheckLayer.{CheckLayer}
+use Rattle.commands.specs.declared.command.Bottom.{Bottom}
+use Rattle.commands.specs.declared.command.Bottom.TheVariants as bottom
+use Rattle.commands.specs.declared.command.CheckLayer.{CheckLayer}
 use Rattle.questions.specs.declared.beneath.Beneath.{Beneath}
 
 -- the cells of a profile with the bytes used, or the refusal
@@ -28,6 +28,16 @@ abbrev pub bottom_cells : Bottom → List (Cell Interval)
 bottom_cells (bottom.Register readings) = result_unwrap_or (bounded (map Reading (vec_items readings))) []
 bottom_cells (bottom.Nominal reading length) = result_unwrap_or (bounded (replicate length (Reading reading))) []
 bottom_cells (bottom.Profile bytes) = result_unwrap_or (with_ok (λ p. p.0) (profile_in (vec_items bytes))) []
+
+-- the length of a bottom, and how many bytes a profile takes; or the refusal
+abbrev pub size_in : Bottom → Result (ℕ × Option ℕ) ℕ
+size_in (bottom.Register readings) = with_ok (λ cells. (length cells, None)) (bounded (map Reading (vec_items readings)))
+size_in (bottom.Nominal reading n) = with_ok (λ cells. (length cells, None)) (bounded (replicate n (Reading reading)))
+size_in (bottom.Profile bytes) = with_ok (λ p. (length p.0, Some p.1)) (profile_in (vec_items bytes))
+
+abbrev pub size_text : ℕ → Option ℕ → List ℕ
+size_text n None = decimal n
+size_text n (Some used) = decimal n ++ (codes " " ++ decimal used)
 
 pub record Series : Type 0 where
   pub bottom : List (Cell Interval)

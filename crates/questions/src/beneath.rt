@@ -1,24 +1,11 @@
 // The series beneath the console's journals: a bottom, and a check over it where one is on.
-use series::interval::Interval;
+use commands::command::{Bottom, CheckLayer};
 
 pub mod calls;
 
-// What a bottom is made of. A base is made of it anew for each question.
-#[derive(Drop)]
-pub enum Bottom {
-    Register(Vec<Interval>),
-    Nominal { reading: Interval, length: u32 },
-    Profile(Vec<u8>),
-}
-
-#[derive(Clone, Copy)]
-pub struct CheckLayer {
-    pub tag: u8,
-    pub limit: u32,
-}
-
 #[derive(Drop)]
 pub struct Beneath {
+    // A base is made of it anew for each question.
     bottom: Bottom,
     check: Option<CheckLayer>,
 }

@@ -6,24 +6,21 @@ ghost use Rattle.folding.specs.Piles.{down};
 ghost use Rattle.listing.specs.Lines.{cell_text};
 ghost use Rattle.commands.specs.declared.command.Question.TheVariants.{Fits};
 ghost use Rattle.answers.specs.Texts.{answer_text};
-ghost use Rattle.answers.specs.Views.{origin_text};
+ghost use Rattle.journal.specs.Texts.{origin_text};
 ghost use Rattle.questions.specs.Questions.{question_text, pile_text, inquiry_text};
 
 use crate::inquiry::Inquiry;
-use answers::told::{OriginText, RefusalText};
+use answers::texts::Answer;
 use commands::command::Question;
 use flattened::flatten_text;
 use journal::journal::Journal;
-use listing::line::CellText;
 use pile::laid::{Laid, fits};
 use pile::traced::Traced;
 use series::base::Base;
 use series::interval::Interval;
 use std::alloc::{AllocError, Global};
-use told::CellAnswer;
 
 mod flattened;
-mod told;
 
 // The tags of a pile's journals.
 const LOWER_TAG: u8 = 3;
@@ -53,8 +50,7 @@ fn read_text<B: Base<Kind = Interval>>(
 ) -> Result<String, AllocError>
     ensures { IfOk result (λ text. string_bytes text ≡ answer_text cell_text (nth (B.Base.cells base.now) place)) }
 {
-    let cell = CellAnswer(base.read(place));
-    format!(in heap; "{cell}")
+    Answer(base.read(place)).to_string(heap)
 }
 
 // The answer to a question of one journal.
@@ -81,16 +77,9 @@ fn place_text<P: Traced<Kind = Interval>>(
 ) -> Result<String, AllocError>
     ensures { IfOk result (λ text. string_bytes text ≡ answer_text (λ c. answer_text origin_text (down (P.Traced.journals pile.now) place) ++ (codes " " ++ cell_text c)) (nth (P.Base.cells pile.now) place)) }
 {
-    let origin = OriginText(pile.trace(place));
     match pile.read(place) {
-        Ok(cell) => {
-            let cell = CellText(cell);
-            format!(in heap; "{origin} {cell}")
-        }
-        Err(refusal) => {
-            let refused = RefusalText(refusal);
-            format!(in heap; "{refused}")
-        }
+        Ok(cell) => format!(in heap; "{} {cell}", Answer(pile.trace(place))),
+        Err(refusal) => refusal.to_string(heap),
     }
 }
 

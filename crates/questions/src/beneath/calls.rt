@@ -1,21 +1,17 @@
 // Laying a bottom or a check beneath the journals, and answering inquiries over what lies there.
-ghost use Rattle.std.specs.Prelude.{◌≡◌, true, [], map, length as count, replicate, is_err, IfOk, None as none, string_bytes, codes, OnOk};
+ghost use Rattle.std.specs.Prelude.{◌≡◌, true, [], is_err, IfOk, Some as some, None as none, string_bytes, codes, OnOk};
 ghost use Rattle.std.specs.Result.{result_unwrap_or};
-ghost use Rattle.series.specs.Bottoms.{bounded, register_cells};
-ghost use Rattle.series.specs.Refusals.{by_number, with_ok, number};
-ghost use Rattle.series.specs.declared.cell.Cell.TheVariants.{Reading};
-ghost use Rattle.profile.specs.Profiles.{packed_cells};
-ghost use Rattle.commands.specs.Commands.{register, nominal, profile, by_layer};
-ghost use Rattle.answers.specs.Texts.{refused_text};
+ghost use Rattle.series.specs.Refusals.{by_number, with_ok};
+ghost use Rattle.commands.specs.declared.command.Layer.TheVariants.{Bottom as BottomLayer};
+ghost use Rattle.commands.specs.Commands.{by_layer};
 ghost use Rattle.questions.specs.Questions.{inquiry_text};
-ghost use Rattle.questions.specs.Series.{beneath, cells_of, checked_by, laid_down, profile_in, by_check};
+ghost use Rattle.questions.specs.Series.{beneath, cells_of, checked_by, laid_down, size_text, size_in, by_check};
 
-use super::{Beneath, Bottom, CheckLayer};
+use super::Beneath;
 use crate::inquiry::Inquiry;
 use crate::over_base::answer_over;
-use answers::told::RefusalText;
-use commands::command::Layer;
-use pile::traced::Traced;
+use commands::command::{Bottom, CheckLayer, Layer};
+use pile::traced::bare::Bare;
 use profile::packed::Packed;
 use series::base::Base;
 use series::check::Check;
@@ -24,75 +20,79 @@ use series::nominal::Nominal;
 use series::refusal::Refusal;
 use series::register::Register;
 use std::alloc::{AllocError, Global};
+use std::fmt;
 
 // A profile's layer has this tag.
 const PROFILE_TAG: u8 = 1;
 
-// The length of a register of these readings; refuses with TooLong.
-fn register_length(readings: &[Interval]) -> Result<u32, Refusal>
-    ensures { by_number result ≡ with_ok count (bounded (map Reading readings.now)) }
-{
-    let mut register = Register::new();
-    register.fill(readings)?;
-    Ok(register.length())
+// How long a bottom is; and of a profile, how many bytes it takes.
+#[derive(Clone, Copy)]
+struct Size {
+    length: u32,
+    used: Option<usize>,
 }
 
-// The length of a profile at the front of these bytes, and how many it takes; refuses as opening it does.
-fn profile_size(bytes: &[u8]) -> Result<(u32, usize), Refusal>
-    ensures { by_number result ≡ with_ok (λ p. (count p.0, p.1)) (profile_in bytes.now) }
-{
-    let mut profile = Packed::new(PROFILE_TAG);
-    let used = profile.open(bytes)?;
-    Ok((profile.length(), used))
+impl fmt::Display for Size {
+    ghost output = { λ s. some (size_text s.length s.used) };
+
+    fn fmt<W: fmt::Write>(&self, f: &mut fmt::Formatter<W>) -> fmt::Result {
+        match self.used {
+            Some(used) => write!(f, "{} {used}", self.length),
+            None => write!(f, "{}", self.length),
+        }
+    }
 }
 
-// The length of a nominal base; refuses with TooLong.
-fn nominal_length(reading: Interval, length: u32) -> Result<u32, Refusal>
-    ensures { by_number result ≡ with_ok count (bounded (replicate length (Reading reading))) }
+// The size of a bottom, by laying it; refuses as that does.
+fn size_of(bottom: &Bottom) -> Result<Size, Refusal>
+    ensures { by_number (with_ok (λ s. (s.length, s.used)) result) ≡ size_in bottom.now }
 {
-    let nominal = Nominal::new(reading, length)?;
-    Ok(nominal.length())
-}
-
-// The answer where a layer was refused.
-fn refused_text(heap: Global, refusal: Refusal) -> Result<String, AllocError>
-    ensures { IfOk result (λ text. string_bytes text ≡ refused_text (number refusal)) }
-{
-    let refused = RefusalText(refusal);
-    format!(in heap; "{refused}")
-}
-
-// The register of these readings; an empty one where they are too many.
-fn register_of<'a>(readings: &'a [Interval]) -> Register<'a, Interval>
-    ensures { register_cells result ≡ result_unwrap_or (bounded (map Reading readings.now)) [] }
-{
-    let mut register = Register::new();
-    let _ = register.fill(readings);
-    register
-}
-
-// The profile at the front of these bytes; one of no places where there is none.
-fn profile_of<'a>(bytes: &'a [u8]) -> Packed<'a>
-    ensures { packed_cells result ≡ result_unwrap_or (with_ok (λ p. p.0) (profile_in bytes.now)) [] }
-{
-    let mut profile = Packed::new(PROFILE_TAG);
-    let _ = profile.open(bytes);
-    profile
+    match bottom {
+        Bottom::Register(readings) => {
+            let length = Register::of(readings.as_slice())?.length();
+            Ok(Size { length, used: None })
+        }
+        Bottom::Nominal { reading, length } => {
+            let length = Nominal::new(*reading, *length)?.length();
+            Ok(Size { length, used: None })
+        }
+        Bottom::Profile(bytes) => {
+            let (profile, used) = Packed::open(PROFILE_TAG, bytes.as_slice())?;
+            Ok(Size {
+                length: profile.length(),
+                used: Some(used),
+            })
+        }
+    }
 }
 
 // The answer to an inquiry over a bottom, under a check where there is one.
-fn under_check<B: Traced<Kind = Interval> + Drop>(
+fn under_check<B: Bare<Kind = Interval> + Drop>(
     heap: Global,
     bottom: B,
     check: Option<CheckLayer>,
     inquiry: &Inquiry,
 ) -> Result<String, AllocError>
-    requires { B.Traced.journals bottom ≡ [] }
     ensures { IfOk result (λ text. string_bytes text ≡ inquiry_text (checked_by (by_check check) (B.Base.cells bottom)) inquiry.now) }
 {
     match check {
         Some(on) => answer_over(heap, Check::new(bottom, on.tag, on.limit), inquiry),
         None => answer_over(heap, bottom, inquiry),
+    }
+}
+
+// The same over a bottom that may have been refused: then over no cells.
+fn over_bottom<B: Bare<Kind = Interval> + Drop>(
+    heap: Global,
+    bottom: Result<B, Refusal>,
+    check: Option<CheckLayer>,
+    inquiry: &Inquiry,
+) -> Result<String, AllocError>
+    ensures { IfOk result (λ text. string_bytes text ≡ inquiry_text (checked_by (by_check check) (result_unwrap_or (with_ok B.Base.cells bottom) [])) inquiry.now) }
+{
+    match bottom {
+        Ok(bottom) => under_check(heap, bottom, check, inquiry),
+        Err(_) => under_check(heap, Register::new(), check, inquiry),
     }
 }
 
@@ -107,53 +107,18 @@ impl Beneath {
         }
     }
 
-    // Lays a register of these readings.
-    fn lay_register(&mut self, heap: Global, readings: Vec<Interval>) -> Result<String, AllocError>
-        ensures outcome { IfOk result (λ text. (string_bytes text, beneath self.new) ≡ laid_down (beneath self.old) (register readings.items)) }
+    // Lays a bottom.
+    fn lay_bottom(&mut self, heap: Global, bottom: Bottom) -> Result<String, AllocError>
+        ensures outcome { IfOk result (λ text. (string_bytes text, beneath self.new) ≡ laid_down (beneath self.old) (by_layer (BottomLayer bottom))) }
         ensures same { is_err result ≡ true → self.new ≡ self.old }
     {
-        match register_length(readings.as_slice()) {
-            Ok(length) => {
-                let text = format!(in heap; "ok {length}")?;
-                self.bottom = Bottom::Register(readings);
+        match size_of(&bottom) {
+            Ok(size) => {
+                let text = format!(in heap; "ok {size}")?;
+                self.bottom = bottom;
                 Ok(text)
             }
-            Err(refusal) => refused_text(heap, refusal),
-        }
-    }
-
-    // Lays so many places of one reading.
-    fn lay_nominal(
-        &mut self,
-        heap: Global,
-        reading: Interval,
-        length: u32,
-    ) -> Result<String, AllocError>
-        ensures outcome { IfOk result (λ text. (string_bytes text, beneath self.new) ≡ laid_down (beneath self.old) (nominal reading length)) }
-        ensures same { is_err result ≡ true → self.new ≡ self.old }
-    {
-        match nominal_length(reading, length) {
-            Ok(places) => {
-                let text = format!(in heap; "ok {places}")?;
-                self.bottom = Bottom::Nominal { reading, length };
-                Ok(text)
-            }
-            Err(refusal) => refused_text(heap, refusal),
-        }
-    }
-
-    // Lays the profile at the front of these bytes.
-    fn lay_profile(&mut self, heap: Global, bytes: Vec<u8>) -> Result<String, AllocError>
-        ensures outcome { IfOk result (λ text. (string_bytes text, beneath self.new) ≡ laid_down (beneath self.old) (profile bytes.items)) }
-        ensures same { is_err result ≡ true → self.new ≡ self.old }
-    {
-        match profile_size(bytes.as_slice()) {
-            Ok((length, used)) => {
-                let text = format!(in heap; "ok {length} {used}")?;
-                self.bottom = Bottom::Profile(bytes);
-                Ok(text)
-            }
-            Err(refusal) => refused_text(heap, refusal),
+            Err(refusal) => refusal.to_string(heap),
         }
     }
 
@@ -175,11 +140,8 @@ impl Beneath {
         ensures same { is_err result ≡ true → self.new ≡ self.old }
     {
         match layer {
-            Layer::Register(readings) => self.lay_register(heap, readings),
-            Layer::Nominal { reading, length } => self.lay_nominal(heap, reading, length),
-            Layer::Profile(bytes) => self.lay_profile(heap, bytes),
-            Layer::Check { tag, limit } => self.lay_check(heap, Some(CheckLayer { tag, limit })),
-            Layer::NoCheck => self.lay_check(heap, None),
+            Layer::Bottom(bottom) => self.lay_bottom(heap, bottom),
+            Layer::Check(check) => self.lay_check(heap, check),
         }
     }
 
@@ -187,23 +149,18 @@ impl Beneath {
     pub fn answer(&self, heap: Global, inquiry: &Inquiry) -> Result<String, AllocError>
         ensures { IfOk result (λ text. string_bytes text ≡ inquiry_text (cells_of (beneath self.now)) inquiry.now) }
     {
+        let check = self.check;
         match &self.bottom {
-            Bottom::Register(readings) => under_check(
-                heap,
-                register_of(readings.as_slice()),
-                self.check,
-                inquiry,
-            ),
-            Bottom::Nominal { reading, length } => match Nominal::new(*reading, *length) {
-                Ok(nominal) => under_check(heap, nominal, self.check, inquiry),
-                Err(_) => under_check(heap, register_of(&[]), self.check, inquiry),
-            },
-            Bottom::Profile(bytes) => under_check(
-                heap,
-                profile_of(bytes.as_slice()),
-                self.check,
-                inquiry,
-            ),
+            Bottom::Register(readings) => {
+                over_bottom(heap, Register::of(readings.as_slice()), check, inquiry)
+            }
+            Bottom::Nominal { reading, length } => {
+                over_bottom(heap, Nominal::new(*reading, *length), check, inquiry)
+            }
+            Bottom::Profile(bytes) => {
+                let opened = Packed::open(PROFILE_TAG, bytes.as_slice());
+                over_bottom(heap, opened.map(|p| p.0), check, inquiry)
+            }
         }
     }
 }

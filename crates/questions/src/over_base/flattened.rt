@@ -1,26 +1,27 @@
 // All readings of a base, as text.
-ghost use Rattle.std.specs.Prelude.{◌≡◌, [], ◌++◌, IfOk, Err, string_bytes, codes, OnOk};
+ghost use Rattle.std.specs.Prelude.{◌≡◌, [], ◌++◌, IfOk, Some, Err, string_bytes, codes, OnOk};
 ghost use Rattle.std.specs.List.{flat_map};
 ghost use Rattle.series.specs.Flattened.{says};
 ghost use Rattle.answers.specs.Texts.{ok_text};
 ghost use Rattle.questions.specs.Questions.{reading_text, readings_text, ending_text, flatten_text};
 
-use super::told::ReadingText;
-use answers::told::RefusalText;
-use listing::line::CellText;
 use series::base::Base;
-use series::cell::Cell;
 use series::flatten::{FlattenFault, flatten};
 use series::interval::Interval;
 use series::refusal::Refusal;
 use std::alloc::{AllocError, Global};
+use std::fmt;
 
-// Adds a reading to a text, behind a blank.
-fn push_reading(text: &mut String, reading: &Interval) -> Result<(), AllocError>
-    ensures { OnOk result (string_bytes text.new ≡ string_bytes text.old ++ (codes " " ++ reading_text reading.now)) }
-{
-    let reading = ReadingText(*reading);
-    write!(text, " {reading}")
+// Amount and status.
+#[derive(Clone, Copy)]
+struct ReadingText(Interval);
+
+impl fmt::Display for ReadingText {
+    ghost output = { λ x. Some (reading_text x.0) };
+
+    fn fmt<W: fmt::Write>(&self, f: &mut fmt::Formatter<W>) -> fmt::Result {
+        write!(f, "{}/{}", self.0.amount, self.0.status)
+    }
 }
 
 // Adds readings to a text, each behind a blank.
@@ -28,7 +29,7 @@ fn push_readings(text: &mut String, readings: &[Interval]) -> Result<(), AllocEr
     ensures { OnOk result (string_bytes text.new ≡ string_bytes text.old ++ flat_map (λ x. codes " " ++ reading_text x) readings.now) }
 {
     for reading in readings {
-        push_reading(text, reading)?;
+        write!(text, " {}", ReadingText(*reading))?;
     }
     Ok(())
 }
@@ -37,12 +38,11 @@ fn push_readings(text: &mut String, readings: &[Interval]) -> Result<(), AllocEr
 fn readings_text(heap: Global, readings: &[Interval], count: u32) -> Result<String, AllocError>
     ensures { IfOk result (λ text. string_bytes text ≡ ok_text count ++ readings_text readings.now) }
 {
-    if readings.len() == 0 {
+    let [first, others @ ..] = readings else {
         return format!(in heap; "ok {count}");
-    }
-    let first = ReadingText(readings[0]);
-    let mut text = format!(in heap; "ok {count}: {first}")?;
-    push_readings(&mut text, &readings[1..])?;
+    };
+    let mut text = format!(in heap; "ok {count}: {}", ReadingText(*first))?;
+    push_readings(&mut text, others)?;
     Ok(text)
 }
 
@@ -51,14 +51,8 @@ fn stop_text(heap: Global, stop: FlattenFault) -> Result<String, AllocError>
     ensures { IfOk result (λ text. string_bytes text ≡ ending_text [] (Err (says stop))) }
 {
     match stop {
-        FlattenFault::TooShort => {
-            let refused = RefusalText(Refusal::BufferShort);
-            format!(in heap; "{refused}")
-        }
-        FlattenFault::AtPlace { place, fault } => {
-            let cell = CellText(Cell::Fault(fault));
-            format!(in heap; "refused {place}: {cell}")
-        }
+        FlattenFault::TooShort => Refusal::BufferShort.to_string(heap),
+        FlattenFault::AtPlace(c) => format!(in heap; "refused {}: {}", c.place, c.fault),
     }
 }
 

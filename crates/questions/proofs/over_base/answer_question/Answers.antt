@@ -1,17 +1,9 @@
 use Rattle.std.proofs.Common.{sym, ap, ◌∙◌}
 use Rattle.journal.specs.Journals.{state}
-use Rattle.commands.specs.declared.command.Question.TheVariants.{Read, Flatten}
+use Rattle.commands.specs.declared.command.Question.TheVariants.{Flatten}
 use Rattle.questions.specs.Questions.{question_text}
 use Rattle.questions.proofs.Told.{told_as}
 use Rattle.questions.proofs.over_base.answer_question.Goals as goal
-
-pub returns-in-Read : goal.returns-in-Read
-returns-in-Read g c =
-    let cells = g.B.Base.cells in
-    told_as c.read_text.result
-    (ap (λ l. question_text (cells l.base) (state l.journal) (Read l.tag c.in-Read.place)) c.new.ensures
-    ∙ ap (question_text (cells c.args.base) (state c.args.journal)) (sym c.in-Read.is))
-    c.read_text.ensures
 
 pub returns-in-Flatten : goal.returns-in-Flatten
 returns-in-Flatten g c =
