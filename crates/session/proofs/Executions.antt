@@ -3,16 +3,10 @@ use Rattle.std.proofs.Common.{◌≡◌, ℕ, List, IfOk, Ok, Err, string_bytes,
 use Rattle.std.specs.declared.alloc.AllocError.{AllocError}
 use Rattle.std.specs.declared.alloc.Global.{Global}
 use Rattle.journal.specs.Machine.{State}
-use Rattle.questions.specs.Series.{Series, cells_of}
+use Rattle.questions.specs.Series.{cells_of}
 use Rattle.questions.specs.Questions.{pile_text}
-use Rattle.session.specs.Consoles.{Desk, at, on_series, executed}
+use Rattle.session.specs.Consoles.{Desk, at, executed}
 use Rattle.commands.specs.Commands.{pile}
-
-pub made-on_series : (r : Result (String Global) AllocError) (d : Desk) (after : Series) (o : List ℕ × Series) →
-    IfOk r (λ text. (string_bytes text, after) ≡ o) →
-    IfOk r (λ text. ◌≡◌ {A = List ℕ × Desk} (string_bytes text, record { journals = d.journals; series = after }) (on_series d o))
-made-on_series (Ok text) d after o h = ap (on_series d) h
-made-on_series (Err e) d after o h = tt
 
 pub made-pile : (r : Result (String Global) AllocError) (d : Desk) (j k p : ℕ) (lower upper : State ℕ) →
     lower ≡ at d j → upper ≡ at d k → IfOk r (λ text. string_bytes text ≡ pile_text (cells_of d.series) lower upper p) →

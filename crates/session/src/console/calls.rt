@@ -2,14 +2,12 @@
 ghost use Rattle.std.specs.Prelude.{◌≡◌, true, is_err, IfOk, string_bytes};
 ghost use Rattle.journal.specs.Journals.{state};
 ghost use Rattle.commands.specs.Commands.{by_change, by_command, by_layer, lay as ToLay, change as ToChange, fold as ToFold, ask as ToAsk, pile as ToPile};
-ghost use Rattle.answers.specs.Texts.{answer_text, ok_text};
-ghost use Rattle.series.specs.Refusals.{by_number};
 ghost use Rattle.session.specs.Consoles.{desk, empty, at, with_journal, executed};
 
 use super::Console;
 use answers::changes::make_change;
 use answers::record_texts::{record_text, unrecord_text};
-use answers::told::LengthText;
+use answers::texts::length_text;
 use answers::views::show;
 use commands::command::{Change, Command, Layer, Question};
 use commands::slot::Slot;
@@ -17,16 +15,7 @@ use journal::fold::fold;
 use journal::journal::Journal;
 use questions::beneath::Beneath;
 use questions::inquiry::Inquiry;
-use series::refusal::Refusal;
 use std::alloc::{AllocError, Global};
-
-// What a fold answers: ok and the length, or the refusal.
-fn fold_text(heap: Global, answer: Result<u32, Refusal>) -> Result<String, AllocError>
-    ensures { IfOk result (λ text. string_bytes text ≡ answer_text ok_text (by_number answer)) }
-{
-    let answer = LengthText(answer);
-    format!(in heap; "{answer}")
-}
 
 impl Console {
     // Four new journals, and a register with no readings beneath.
@@ -78,7 +67,7 @@ impl Console {
     {
         let mut both = self.journal(third);
         let answer = fold(&self.journal(lower), &self.journal(upper), &mut both);
-        let text = fold_text(heap, answer)?;
+        let text = length_text(heap, answer)?;
         self.put(third, both);
         Ok(text)
     }

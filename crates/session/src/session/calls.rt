@@ -6,14 +6,9 @@ ghost use Rattle.session.specs.Sessions.{answered, session as meant, opened, tak
 
 use super::Session;
 use crate::console::Console;
-use commands::parse::parse;
+use commands::parse::{MOST_BYTES, parse};
 use commands::wrong::ParseFault;
 use std::alloc::{AllocError, Global};
-
-// The most bytes that a line may have.
-const MOST_BYTES: usize = 65536;
-
-const LINE_FEED: u8 = 10;
 
 // The answer to a line with this number; a line without fields has none. Want of memory leaves all as it was.
 fn answer_line(
@@ -63,7 +58,7 @@ impl Session {
         ensures outcome { IfOk result (λ a. (option_map string_bytes a, meant self.new) ≡ taken (meant self.old) byte) }
         ensures same { is_err result ≡ true → meant self.new ≡ meant self.old }
     {
-        if byte == LINE_FEED {
+        if byte == b'\n' {
             return self.end_line(heap);
         }
         if self.line.len() <= MOST_BYTES {
