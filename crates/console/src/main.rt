@@ -3,9 +3,9 @@
 
 use session::session::Session;
 use std::alloc::AllocError;
-use std::env;
 use std::io::{Read, Write};
 use std::process::ExitCode;
+use std::{env, fmt};
 
 const HELP: &str = "usage: console < SCRIPT
 
@@ -62,12 +62,13 @@ impl From<AllocError> for Trouble {
     }
 }
 
-// What went wrong, in words.
-fn words_of(trouble: Trouble) -> &'static str {
-    match trouble {
-        Trouble::Input => "standard input cannot be read",
-        Trouble::Output => "standard output cannot be written",
-        Trouble::Memory => "no memory for a line or its answer",
+impl fmt::Display for Trouble {
+    fn fmt<W: fmt::Write>(&self, f: &mut fmt::Formatter<W>) -> fmt::Result {
+        f.write_str(match self {
+            Trouble::Input => "standard input cannot be read",
+            Trouble::Output => "standard output cannot be written",
+            Trouble::Memory => "no memory for a line or its answer",
+        })
     }
 }
 
@@ -77,10 +78,8 @@ fn print_answer(rt: &HostRuntime, answer: Option<String>) -> Result<(), Trouble>
         return Ok(());
     };
     text.push_str("\n")?;
-    match rt.stdout().write_all(text.as_bytes()) {
-        Ok(()) => Ok(()),
-        Err(_) => Err(Trouble::Output),
-    }
+    let written = rt.stdout().write_all(text.as_bytes());
+    written.map_err(|_| Trouble::Output)
 }
 
 // Takes some bytes of the script, and prints the answers of the lines that end in them.
@@ -105,6 +104,7 @@ fn take_part(rt: &HostRuntime, session: &mut Session) -> Result<bool, Trouble> {
 // Runs the script, a part of it at a time.
 fn run(rt: &HostRuntime) -> Result<(), Trouble> {
     let mut session = Session::new(rt.alloc());
+    // A loop that waits on input needs an end; no script has so many parts.
     for _ in 0..u64::MAX {
         if !take_part(rt, &mut session)? {
             break;
@@ -115,8 +115,8 @@ fn run(rt: &HostRuntime) -> Result<(), Trouble> {
 }
 
 // Says on standard error what went wrong, and ends with status 1.
-fn complain(rt: &HostRuntime, text: &str) -> anyhow::Result<ExitCode> {
-    eprintln!(rt; "console: {text}")?;
+fn complain<T: fmt::Display + Drop>(rt: &HostRuntime, trouble: T) -> anyhow::Result<ExitCode> {
+    eprintln!(rt; "console: {trouble}")?;
     Ok(ExitCode::FAILURE)
 }
 
@@ -125,7 +125,7 @@ fn main(rt: HostRuntime) -> anyhow::Result<ExitCode> {
     match args.next() {
         None => match run(&rt) {
             Ok(()) => Ok(ExitCode::SUCCESS),
-            Err(trouble) => complain(&rt, words_of(trouble)),
+            Err(trouble) => complain(&rt, trouble),
         },
         Some(word) => {
             if word.as_str() == "--help" || word.as_str() == "-h" {

@@ -1,11 +1,11 @@
 // Reads a packed profile and a batch of corrections from standard input, and prints the corrected series.
 #![tactic(auto)]
 
-use listing::readout::read_out;
+use listing::readout::{MOST_BYTES, read_out};
 use listing::refused::ReadoutError;
 use std::io::{Read, Write};
 use std::process::ExitCode;
-use std::{env, io};
+use std::{env, fmt, io};
 
 const HELP: &str = "usage: readout < INPUT
 
@@ -34,31 +34,32 @@ bad record is known, and ends with status 1:
 // Standard input, cut after the first byte that is too many.
 fn input(rt: &HostRuntime) -> io::Result<Vec<u8>> {
     let mut bytes = Vec::new(rt.alloc());
-    rt.stdin().take(65537).read_to_end(&mut bytes)?;
+    rt.stdin()
+        .take(MOST_BYTES as u64 + 1)
+        .read_to_end(&mut bytes)?;
     Ok(bytes)
 }
 
 // What went wrong outside of the input, on standard error.
-fn complain(rt: &HostRuntime, text: &str) -> anyhow::Result<ExitCode> {
-    eprintln!(rt; "readout: {text}")?;
+fn complain<T: fmt::Display + Drop>(rt: &HostRuntime, trouble: T) -> anyhow::Result<ExitCode> {
+    eprintln!(rt; "readout: {trouble}")?;
     Ok(ExitCode::FAILURE)
 }
 
 fn run(rt: &HostRuntime) -> anyhow::Result<ExitCode> {
-    let bytes = match input(rt) {
-        Ok(bytes) => bytes,
-        Err(_) => return complain(rt, "standard input cannot be read"),
+    let Ok(bytes) = input(rt) else {
+        return complain(rt, "standard input cannot be read");
     };
     match read_out(rt.alloc(), bytes.as_slice()) {
         Ok(text) => match rt.stdout().write_all(text.as_bytes()) {
             Ok(()) => Ok(ExitCode::SUCCESS),
             Err(_) => complain(rt, "standard output cannot be written"),
         },
-        Err(ReadoutError::Refused(refused)) => {
+        Err(ReadoutError::NoMemory) => complain(rt, ReadoutError::NoMemory),
+        Err(refused) => {
             println!(rt; "{refused}")?;
             Ok(ExitCode::FAILURE)
         }
-        Err(ReadoutError::NoMemory) => complain(rt, "no memory for the listing"),
     }
 }
 

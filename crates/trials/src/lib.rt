@@ -4,6 +4,7 @@
 
 #[cfg(test)]
 mod tests {
+    use answers::texts::length_text;
     use journal::draft::Draft;
     use journal::fold::fold;
     use journal::journal::Journal;
@@ -29,36 +30,33 @@ mod tests {
 
     // Whether a read answered this fault.
     fn is_fault<T: Copy>(answer: Result<Cell<T>, Refusal>, cause: u8, tag: u8, place: u32) -> bool {
-        let Ok(cell) = answer else {
-            return false;
-        };
-        match cell {
-            Cell::Fault(fault) => fault.cause == cause && fault.tag == tag && fault.place == place,
-            Cell::Reading(_) => false,
+        match answer {
+            Ok(Cell::Fault(fault)) => {
+                fault.cause == cause && fault.tag == tag && fault.place == place
+            }
+            Ok(Cell::Reading(_)) | Err(_) => false,
         }
     }
 
     // The place of the fault at which flattening stopped.
     fn fault_place(answer: Result<u32, FlattenFault>) -> Option<u32> {
-        let Err(stop) = answer else {
-            return None;
-        };
-        match stop {
-            FlattenFault::AtPlace { place, fault: _ } => Some(place),
-            FlattenFault::TooShort => None,
+        match answer {
+            Err(FlattenFault::AtPlace(cell)) => Some(cell.place),
+            Err(FlattenFault::TooShort) | Ok(_) => None,
         }
     }
 
     // 1,048,576 places of which none was delivered, in 4 + 131,072 bytes.
     #[test]
-    fn longest_profile(rt: HostRuntime) {
+    fn longest_profile(rt: HostRuntime) -> Result<(), Fail> {
         let mut bytes = [0u8; 131076];
         bytes[1] = 16;
-        let mut profile = Packed::new(1);
-        assert!(rt; matches!(profile.open(&bytes), Ok(131076)));
+        let (profile, used) = Packed::open(1, &bytes)?;
+        assert_eq!(rt; used, 131076);
         assert_eq!(rt; profile.length(), 1048576);
         assert!(rt; is_fault(profile.read(1048575), 11, 1, 1048575));
         assert!(rt; matches!(profile.read(1048576), Err(Refusal::NoSuchPlace)));
+        Ok(())
     }
 
     #[test]
@@ -66,9 +64,14 @@ mod tests {
         let mut bytes = [0u8; 131077];
         bytes[1] = 16;
         bytes[3] = 1;
-        let mut profile = Packed::new(1);
-        assert!(rt; matches!(profile.open(&bytes), Err(Refusal::TooLong)));
+        assert!(rt; matches!(Packed::open(1, &bytes), Err(Refusal::TooLong)));
+    }
+
+    #[test]
+    fn profile_of_no_places(rt: HostRuntime) {
+        let profile = Packed::new(1);
         assert_eq!(rt; profile.length(), 0);
+        assert!(rt; matches!(profile.read(0), Err(Refusal::NoSuchPlace)));
     }
 
     #[test]
@@ -116,8 +119,7 @@ mod tests {
     #[test]
     fn events_under_journals(rt: HostRuntime) -> Result<(), Fail> {
         let readings = [Event { time: 1, code: 2 }, Event { time: 3, code: 4 }];
-        let mut register = Register::new();
-        assert!(rt; matches!(register.fill(&readings), Ok(())));
+        let register = Register::of(&readings)?;
         let word = Event {
             time: 9,
             code: 65535,
@@ -217,12 +219,23 @@ mod tests {
         Ok(())
     }
 
+    // What a correction answered, as the console prints it.
+    #[test]
+    fn answers_as_text(rt: HostRuntime) -> Result<(), Fail> {
+        let mut journal = Journal::new();
+        journal.start(10)?;
+        let struck = length_text(rt.alloc(), journal.strike(2, 3))?;
+        assert_eq!(rt; struck.as_str(), "ok 7");
+        let refused = length_text(rt.alloc(), journal.strike(7, 1))?;
+        assert_eq!(rt; refused.as_str(), "refused 1");
+        Ok(())
+    }
+
     // A buffer too short, a fault at place 1, and what was written before it.
     #[test]
     fn flattens(rt: HostRuntime) -> Result<(), Fail> {
         let bytes = [0, 0, 0, 3, 5, 0, 0, 0, 5, 255, 255, 255, 255];
-        let mut profile = Packed::new(1);
-        assert!(rt; profile.open(&bytes).is_ok());
+        let (profile, _) = Packed::open(1, &bytes)?;
         let none = Interval {
             amount: 9,
             status: 9,

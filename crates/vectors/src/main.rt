@@ -46,8 +46,8 @@ fn print_one(rt: &HostRuntime, line: &[u8]) -> anyhow::Result<()> {
     let bytes = bytes_of(rt.alloc(), line)?;
     match read_out(rt.alloc(), bytes.as_slice()) {
         Ok(text) => rt.stdout().write_all(text.as_bytes())?,
-        Err(ReadoutError::Refused(refused)) => println!(rt; "{refused}")?,
         Err(ReadoutError::NoMemory) => return Err(anyhow!("no memory")),
+        Err(refused) => println!(rt; "{refused}")?,
     }
     println!(rt; "")?;
     Ok(())
