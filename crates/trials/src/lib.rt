@@ -51,7 +51,7 @@ mod tests {
     fn longest_profile(rt: HostRuntime) -> Result<(), Fail> {
         let mut bytes = [0u8; 131076];
         bytes[1] = 16;
-        let (profile, used) = Packed::open(1, &bytes)?;
+        let (profile, used) = Packed::of(1, &bytes)?;
         assert_eq!(rt; used, 131076);
         assert_eq!(rt; profile.length(), 1048576);
         assert!(rt; is_fault(profile.read(1048575), 11, 1, 1048575));
@@ -64,7 +64,9 @@ mod tests {
         let mut bytes = [0u8; 131077];
         bytes[1] = 16;
         bytes[3] = 1;
-        assert!(rt; matches!(Packed::open(1, &bytes), Err(Refusal::TooLong)));
+        let mut profile = Packed::new(1);
+        assert!(rt; matches!(profile.open(&bytes), Err(Refusal::TooLong)));
+        assert_eq!(rt; profile.length(), 0);
     }
 
     #[test]
@@ -119,7 +121,8 @@ mod tests {
     #[test]
     fn events_under_journals(rt: HostRuntime) -> Result<(), Fail> {
         let readings = [Event { time: 1, code: 2 }, Event { time: 3, code: 4 }];
-        let register = Register::of(&readings)?;
+        let mut register = Register::new();
+        assert!(rt; matches!(register.fill(&readings), Ok(())));
         let word = Event {
             time: 9,
             code: 65535,
@@ -235,7 +238,8 @@ mod tests {
     #[test]
     fn flattens(rt: HostRuntime) -> Result<(), Fail> {
         let bytes = [0, 0, 0, 3, 5, 0, 0, 0, 5, 255, 255, 255, 255];
-        let (profile, _) = Packed::open(1, &bytes)?;
+        let mut profile = Packed::new(1);
+        assert!(rt; profile.open(&bytes).is_ok());
         let none = Interval {
             amount: 9,
             status: 9,

@@ -57,7 +57,7 @@ fn size_of(bottom: &Bottom) -> Result<Size, Refusal>
             Ok(Size { length, used: None })
         }
         Bottom::Profile(bytes) => {
-            let (profile, used) = Packed::open(PROFILE_TAG, bytes.as_slice())?;
+            let (profile, used) = Packed::of(PROFILE_TAG, bytes.as_slice())?;
             Ok(Size {
                 length: profile.length(),
                 used: Some(used),
@@ -158,7 +158,7 @@ impl Beneath {
                 over_bottom(heap, Nominal::new(*reading, *length), check, inquiry)
             }
             Bottom::Profile(bytes) => {
-                let opened = Packed::open(PROFILE_TAG, bytes.as_slice());
+                let opened = Packed::of(PROFILE_TAG, bytes.as_slice());
                 over_bottom(heap, opened.map(|p| p.0), check, inquiry)
             }
         }

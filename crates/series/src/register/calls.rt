@@ -1,5 +1,5 @@
-// Making a register, and reading it.
-ghost use Rattle.std.specs.Prelude.{◌≡◌, [], map};
+// Making and filling a register, and reading it.
+ghost use Rattle.std.specs.Prelude.{◌≡◌, true, [], map, is_err};
 ghost use Rattle.series.specs.Refusals.{by_number, with_ok};
 ghost use Rattle.series.specs.Bottoms.{bounded, register_cells, register-few};
 ghost use Rattle.series.specs.declared.cell.Cell.TheVariants.{Reading as CellReading};
@@ -26,6 +26,15 @@ impl<'a, T: Reading> Register<'a, T> {
             return Err(Refusal::TooLong);
         }
         Ok(Register { readings })
+    }
+
+    // Becomes the register of these readings. Refuses with TooLong; a refusal leaves the register as it was.
+    pub fn fill(&mut self, readings: &'a [T]) -> Result<(), Refusal>
+        ensures outcome { by_number (with_ok (λ _. register_cells self.new) result) ≡ bounded (map CellReading readings.now) }
+        ensures same { is_err result ≡ true → self.new ≡ self.old }
+    {
+        *self = Register::of(readings)?;
+        Ok(())
     }
 }
 
