@@ -11,5 +11,6 @@ pub mod Tidiness
 pub mod Folded
 pub mod Lawful
 pub mod Layouts
+pub mod Ends
 pub mod Runs
 pub mod Walks

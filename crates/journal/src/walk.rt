@@ -2,6 +2,7 @@
 ghost use Rattle.std.specs.Prelude.{◌≡◌, true, length as count_of};
 ghost use Rattle.journal.specs.declared.piece.Source.TheVariants.{Entered as EnteredSource};
 ghost use Rattle.journal.specs.Pieces.{of_source, within};
+ghost use Rattle.journal.specs.Ends.{EndOf};
 
 use crate::piece::Piece;
 use std::slice;
@@ -21,6 +22,8 @@ pub enum Run<'a> {
 pub struct Walk<'a> {
     pieces: slice::Iter<'a, Piece>,
     words: &'a [u64],
+    // The pieces to come are the last ones of a journal with these words.
+    ghost end: { ∥ EndOf pieces.rest.now words.now ∥₁ },
     // Entered pieces lie inside the words.
     ghost inside: { within (count_of words.now) (of_source EnteredSource pieces.rest.now) ≡ true },
 }

@@ -12,6 +12,7 @@ pub invariant_of-result : goal.invariant_of-result
 invariant_of-result c =
     let j = c.args.self.now in
     record {
+      end = ∣ (j, 0, c.iter.ensures.rest ∙ c.pieces.ensures ∙ gathered-state j, c.words.ensures) ∣₁;
       inside =
           ap₂ (λ (n : ℕ) (ps : List Piece). within n (of_source Entered ps)) (ap length c.words.ensures ∙ j.stored)
           (c.iter.ensures.rest ∙ c.pieces.ensures ∙ gathered-state j)
