@@ -1,6 +1,8 @@
 -- Bytes in hex: the crate hex reads them as the specification does.
-use Rattle.std.proofs.Common.{◌≡◌, ℕ, ◌+◌, ◌*◌, ◌/◌, ◌%◌, ◌≤◌, List, [], ◌∷◌, length, get_or, inl, inr, Some, None, Option, Result, Ok, Err, sym, refl, ap, ◌∙◌, arith}
+use Rattle.std.proofs.Common.{◌≡◌, ℕ, ◌+◌, ◌*◌, ◌/◌, ◌%◌, ◌≤◌, false, ◌&&◌, List, [], ◌∷◌, length, get_or, inl, inr, Some, None, Option, is_some, Result, Ok, Err, sym, refl, ap, ◌∙◌, arith}
 use Rattle.std.specs.Prelude.{MatchResult}
+use Rattle.std.specs.Char.{is_ascii_hexdigit}
+use Rattle.std.specs.List.{list_all}
 use Rattle.std.specs.Option.{option_map}
 use Rattle.std.specs.Result.{result_ok}
 use Rattle.std.proofs.lemmas.Bool.{cases_eq}
@@ -38,11 +40,33 @@ none-by None low = refl
 none-by (Some h) None = refl
 none-by (Some h) (Some l) = refl
 
-odd-none : (field : List ℕ) → length field % 2 ≡ 1 → None ≡ hex_bytes field
+pub odd-none : (field : List ℕ) → length field % 2 ≡ 1 → None ≡ hex_bytes field
 odd-none [] odd = absurd (omega arith)
 odd-none (b ∷ []) odd = refl
 odd-none (high ∷ (low ∷ more)) odd =
     rw (← (odd-none more (omega arith))) (none-by (hex_digit high) (hex_digit low))
+
+-- pairs are bytes where each digit is one
+is_some-pair : (h l : Option ℕ) (more : Option (List ℕ)) →
+    (is_some h && (is_some l && is_some more)) ≡ is_some (and_some h (λ x. and_some l (λ y. option_map (λ bs. (16 * x + y) ∷ bs) more)))
+is_some-pair None l more = refl
+is_some-pair (Some x) None more = refl
+is_some-pair (Some x) (Some y) None = refl
+is_some-pair (Some x) (Some y) (Some bs) = refl
+
+is_ascii_hexdigit-is_some : (b : ℕ) → is_ascii_hexdigit b ≡ is_some (hex_digit b)
+is_ascii_hexdigit-is_some b = grind (arith, nat_tests)
+
+pub even-is_some : (field : List ℕ) → length field % 2 ≡ 0 → list_all is_ascii_hexdigit field ≡ is_some (hex_bytes field)
+even-is_some [] even = refl
+even-is_some (b ∷ []) even = absurd (omega arith)
+even-is_some (high ∷ (low ∷ more)) even =
+    rw (is_ascii_hexdigit-is_some high, is_ascii_hexdigit-is_some low, even-is_some more (omega arith))
+    (is_some-pair (hex_digit high) (hex_digit low) (hex_bytes more))
+
+pub none_from_is_some : (o : Option (List ℕ)) → is_some o ≡ false → None ≡ o
+none_from_is_some None h = refl
+none_from_is_some (Some bs) h = cc h
 
 pub result_ok-decode_of : (field : List ℕ) → result_ok (decode_of field) ≡ hex_bytes field
 result_ok-decode_of field =

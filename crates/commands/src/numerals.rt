@@ -1,5 +1,5 @@
 // Numbers and bytes as they are written in a command.
-ghost use Rattle.std.specs.Prelude.{◌≡◌, ◌+◌, ◌-◌, ◌*◌, ◌&&◌, IfOk, if◌then◌else◌, Some, None, vec_items, nat_le};
+ghost use Rattle.std.specs.Prelude.{◌≡◌, ◌+◌, ◌-◌, ◌*◌, ◌&&◌, IfOk, if◌then◌else◌, Some, None, is_some, vec_items, nat_le};
 ghost use Rattle.std.specs.Option.{option_map};
 ghost use Rattle.commands.specs.Numerals.{number_to, hex_bytes, hex};
 ghost use Rattle.commands.specs.Verbs.{all_words};
@@ -32,10 +32,21 @@ pub(crate) fn number(field: &[u8]) -> Option<u64>
     Some(value)
 }
 
-// The bytes of pairs of hex digits; none where a digit is bad or has no other beside it.
+// Whether these are pairs of hex digits, of either case.
+fn is_hex(field: &[u8]) -> bool
+    ensures { result ≡ is_some (hex_bytes field.now) }
+{
+    field.len() % 2 == 0 && field.iter().all(|digit| digit.is_ascii_hexdigit())
+}
+
+// The bytes of pairs of hex digits; none where a digit is bad or has no other beside it, and then no memory
+// is asked for.
 fn pairs(heap: Global, field: &[u8]) -> Result<Option<Vec<u8>>, AllocError>
     ensures { IfOk result (λ o. option_map vec_items o ≡ hex_bytes field.now) }
 {
+    if !is_hex(field) {
+        return Ok(None);
+    }
     let mut bytes = vec![in heap; 0u8; field.len() / 2]?;
     match hex::decode_to_slice(field, &mut bytes) {
         Ok(()) => Ok(Some(bytes)),

@@ -1,7 +1,10 @@
-use Rattle.std.proofs.Common.{◌≡◌, ℕ, ◌++◌, take, drop, length, Some, ap, sym, ◌∙◌}
+use Rattle.std.proofs.Common.{◌≡◌, ℕ, ◌++◌, take, drop, length, Some, ap, sym, ◌∙◌, rules}
 use Rattle.std.proofs.Math.Seq.{take-append_seam}
-use Rattle.commands.proofs.Hex.{read_all, read_none, result_ok-decode_sized}
+use Rattle.commands.proofs.Hex.{none_from_is_some, read_all, read_none, result_ok-decode_sized}
 use Rattle.commands.proofs.numerals.pairs.Goals as goal
+
+pub returns-then-not-is_hex : goal.returns-then-not-is_hex
+returns-then-not-is_hex c = none_from_is_some _ (search rules)
 
 pub returns-in-Ok : goal.returns-in-Ok
 returns-in-Ok c =
