@@ -16,7 +16,7 @@ pub struct Answer<T, E>(pub Result<T, E>);
 
 // The word ok, and how much there is now.
 #[derive(Clone, Copy)]
-pub(crate) struct Accepted<T>(pub(crate) T);
+pub struct Accepted<T>(pub T);
 
 impl<T: fmt::Display, E: fmt::Display> fmt::Display for Answer<T, E> {
     ghost output = { λ a. shown_answer T.output E.output a.0 };
