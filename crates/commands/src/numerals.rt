@@ -39,15 +39,18 @@ fn is_hex(field: &[u8]) -> bool
     field.len() % 2 == 0 && field.iter().all(|digit| digit.is_ascii_hexdigit())
 }
 
-// The bytes of pairs of hex digits; none where a digit is bad or has no other beside it, and then no memory
-// is asked for.
+// The bytes of pairs of hex digits; none where a digit is bad or has no other beside it, also where there is no
+// memory for them.
 fn pairs(heap: Global, field: &[u8]) -> Result<Option<Vec<u8>>, AllocError>
     ensures { IfOk result (λ o. option_map vec_items o ≡ hex_bytes field.now) }
 {
-    if !is_hex(field) {
-        return Ok(None);
-    }
-    let mut bytes = vec![in heap; 0u8; field.len() / 2]?;
+    let Ok(mut bytes) = vec![in heap; 0u8; field.len() / 2] else {
+        return if is_hex(field) {
+            Err(AllocError)
+        } else {
+            Ok(None)
+        };
+    };
     match hex::decode_to_slice(field, &mut bytes) {
         Ok(()) => Ok(Some(bytes)),
         Err(_) => Ok(None),
