@@ -40,10 +40,13 @@ fn is_hex(field: &[u8]) -> bool
 }
 
 // The bytes of pairs of hex digits; none where a digit is bad or has no other beside it, also where there is no
-// memory for them.
+// memory for them. Where the first pair is bad, no memory is asked for.
 fn pairs(heap: Global, field: &[u8]) -> Result<Option<Vec<u8>>, AllocError>
     ensures { IfOk result (λ o. option_map vec_items o ≡ hex_bytes field.now) }
 {
+    if !is_hex(&field[..field.len().min(2)]) {
+        return Ok(None);
+    }
     let Ok(mut bytes) = vec![in heap; 0u8; field.len() / 2] else {
         return if is_hex(field) {
             Err(AllocError)
